@@ -133,7 +133,8 @@ static void try_wrong_calls(void)
     struct fl_round round;
     uint32_t tasks[FL_PROCESSORS];
     int right = fl_rate(NULL, 3, &text) == FL_WRONG_CALL && fl_rate("", (size_t)-1, &text) == FL_WRONG_CALL && fl_rate("", 0, NULL) == FL_WRONG_CALL &&
-                fl_ask_plainly((enum fl_command)0, set, sizeof set - 1, &text) == FL_WRONG_CALL && fl_open(NULL, set, sizeof set - 1, &about) == FL_WRONG_CALL &&
+                fl_ask_plainly((enum fl_command)0, set, sizeof set - 1, &text) == FL_WRONG_CALL &&
+                fl_open(NULL, set, sizeof set - 1, &about) == FL_WRONG_CALL &&
                 fl_open(&none, set, sizeof set - 1, NULL) == FL_WRONG_CALL && fl_open(&none, NULL, 1, &about) == FL_WRONG_CALL &&
                 fl_next(&none, &round, tasks, FL_PROCESSORS) == FL_WRONG_CALL && fl_open(&plan, set, sizeof set - 1, &about) == FL_DONE &&
                 fl_open(&plan, set, sizeof set - 1, &about) == FL_WRONG_CALL && fl_next(&plan, &round, tasks, 1) == FL_WRONG_CALL &&

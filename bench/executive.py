@@ -3,9 +3,9 @@
 
     bench/executive.py EXECUTIVE_BENCH PROGRAM SETS RUNS [NAME ..]
 
-EXECUTIVE_BENCH is bench/executive.c, compiled; SETS a folder of sets near the limit of rows, NAME.toml. At a window of 1 the horizon is an eighth, and there are
-three times as many runs. Of `exec` the whole of `trace` is taken off, which writes the same text. A line has the least milliseconds of each, by the clock
-and of processors, their ratios, and those of the times in the middle of the runs.
+EXECUTIVE_BENCH is bench/executive.c, compiled; SETS a folder of sets near the limit of rows, NAME.toml. At a window of 1 the horizon is an eighth, and
+there are three times as many runs. Of `exec` the whole of `trace` is taken off, which writes the same text. A line has the least milliseconds of each,
+by the clock and of processors, their ratios, and those of the times in the middle of the runs.
 """
 import os
 import pathlib

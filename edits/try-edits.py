@@ -4,8 +4,9 @@
     try-edits.py TOP EDITS [--alone] [--apply] [CRATE..]
 
 TOP is a checkout or a clone whose libraries are built: by `sh build.sh` (and `sh build.sh furnacelime_c` for the crates of the library for C),
-or by the kit's `rt`, which keeps that of a crate in its out/ when a crate above it is checked. EDITS has a folder for each crate with its edits, EDITS/CRATE/NAME.edit, in the form of crates/CRATE/must-fail. Nothing in TOP is changed:
-each crate is tried on a copy, and what its check kept is thrown away at the end. It is no gate.
+or by the kit's `rt`, which keeps that of a crate in its out/ when a crate above it is checked. EDITS has a folder for each crate with its edits,
+EDITS/CRATE/NAME.edit, in the form of crates/CRATE/must-fail. Nothing in TOP is changed: each crate is tried on a copy, and what its check kept is thrown
+away at the end. It is no gate.
 
 How: edits of different functions don't touch one another's proofs, since no contract changes. So all edits of a crate go into one
 copy, at most one for each function, and one check tells of each function whether it is proved; edits of one function come one

@@ -87,7 +87,10 @@ try_tables() {
         strict_cpp="$cpp -x c++ -std=c++17 -Wall -Wextra -pedantic -Werror -O2"
         $strict_cpp -I "$work" -pthread -o "$work/follow" "$top/examples/c/follow_table.c" || fail "$cpp does not compile follow_table.c"
         "$work/follow" | cmp - "$work/wanted" || fail "the table of the three tasks is followed otherwise ($cpp)"
-        printf '#include <stdint.h>\nextern const struct furnacelime_table furnacelime_table;\nconst struct furnacelime_table *volatile used = &furnacelime_table;\nint main() { return used == nullptr; }\n' >"$work/uses.cpp"
+        {
+            printf '#include <stdint.h>\nextern const struct furnacelime_table furnacelime_table;\n'
+            printf 'const struct furnacelime_table *volatile used = &furnacelime_table;\nint main() { return used == nullptr; }\n'
+        } >"$work/uses.cpp"
         { $strict_cpp -c -o "$work/table.o" "$work/table.h" && $strict_cpp -o "$work/uses" "$work/uses.cpp" -x none "$work/table.o" && "$work/uses"; } ||
             fail "the table, compiled by itself by $cpp, isn't linked"
     fi

@@ -1,8 +1,10 @@
 -- What the links of a table's rows say, from row to row.
-use Rattle.std.proofs.Common.{◌≡◌, ◌≢◌, ◌⊎◌, inl, inr, ℕ, zero, suc, ◌+◌, ◌*◌, ◌<◌, ◌≤◌, List, [], ◌∷◌, ◌++◌, Some, None, length, set, get_or, replicate, take, map, refl, sym, ap, ◌∙◌, subst, arith}
+use Rattle.std.proofs.Common.{◌≡◌, ◌≢◌, ◌⊎◌, inl, inr, ℕ, zero, suc, ◌+◌, ◌*◌, ◌<◌, ◌≤◌, List, [], ◌∷◌, ◌++◌, Some, None, length, set, get_or}
+use Rattle.std.proofs.Common.{replicate, take, map, refl, sym, ap, ◌∙◌, subst, arith}
 use Rattle.std.specs.Prelude.{slice_get, nat_lt, nat_eq, if◌then◌else◌, Bool, Option, IfSome, true, false}
 use Rattle.std.proofs.lemmas.Bool.{cases_eq, cases_lt, cases_order, eqb-true, eqb-false, ltb-true, ltb-false}
-use Rattle.std.proofs.lemmas.List.{get_or-set_other, get_or-set_same, get_or_append_left, get_or_default, get_or-map, get_or_past, get_or_push, get_or-replicate, get_or-take, set_past, length-append, length-map, length-set, length-replicate, length-take}
+use Rattle.std.proofs.lemmas.List.{get_or-set_other, get_or-set_same, get_or_append_left, get_or_default, get_or-map, get_or_past, get_or_push}
+use Rattle.std.proofs.lemmas.List.{get_or-replicate, get_or-take, set_past, length-append, length-map, length-set, length-replicate, length-take}
 use Rattle.sched_base.specs.declared.rows.Row.{Row}
 use Rattle.sched_base.specs.declared.rows.Leaf.{Leaf}
 use Rattle.sched_base.specs.declared.rows.Leaf.TheVariants.{Task, Idle, Wait, Empty}
@@ -14,7 +16,8 @@ use Rattle.book_machine.specs.declared.links.Latest.{Latest}
 use Rattle.book_machine.specs.declared.links.Latest.TheVariants.{NoRow, Last, Lost}
 use Rattle.book_machine.specs.declared.links.Place.{Place}
 use Rattle.book_machine.specs.Machine.{State, posted_at, least_posted, EarlierPosted, WaitsFor, HasTakeable}
-use Rattle.book_machine.specs.Links.{IsBefore, LinkMeans, IsLatest, followed, last_link, slot_of, latest_in, latest_at, with_latest, with_latest_in, link_at, AreLinked, KeepsLink, link_of, posted_by, AreEarlierPosted, ArePostedInOrder, IsLinkedTable}
+use Rattle.book_machine.specs.Links.{IsBefore, LinkMeans, IsLatest, followed, last_link, slot_of, latest_in, latest_at, with_latest, with_latest_in}
+use Rattle.book_machine.specs.Links.{link_at, AreLinked, KeepsLink, link_of, posted_by, AreEarlierPosted, ArePostedInOrder, IsLinkedTable}
 use Rattle.book_machine.proofs.Lanes.{least_le}
 
 -- ---- places before others
@@ -85,7 +88,10 @@ module _ (rows new : List (List Row)) (forth : (u i : ℕ) (r : Row) → RowAt r
   linked-by n p n' p' links latest_rows same later back l = record {
     lanes = l.lanes ∙ same;
     says = λ u k r before at. let b = back u k r before at in
-        says-by r.leaf u k 0 k 0 (λ v i early. early) (λ v i s other early there of. (early, (back v i s (before_trans n' p' u k v i (before_row k u v i early) before) there).1)) (link_at links u k) (l.says u k r b.0 b.1);
+        says-by r.leaf u k 0 k 0 (λ v i early. early) (λ v i s other early there of. (
+          early,
+          (back v i s (before_trans n' p' u k v i (before_row k u v i early) before) there).1,
+        )) (link_at links u k) (l.says u k r b.0 b.1);
     ends = λ leaf. latest-by leaf n p n' p' later (λ u i r before there of. back u i r before there) (latest_at latest_rows leaf) (l.ends leaf);
   }
 
@@ -97,21 +103,25 @@ replicate_none (suc m) zero i r at = absurd (let e : None ≡ Some r = at in cc)
 replicate_none (suc m) (suc p) i r at = replicate_none m p i r at
 
 -- what no row is kept of says so, or nothing
-latest_none : (rows : List (List Row)) (n k : ℕ) (leaf : Leaf) (slot : Option ℕ) → ((u i : ℕ) (r : Row) → RowAt rows u i r → ⊥) → IsLatest rows leaf n 0 (latest_in (replicate k NoRow) slot)
+latest_none : (rows : List (List Row)) (n k : ℕ) (leaf : Leaf) (slot : Option ℕ) → ((u i : ℕ) (r : Row) → RowAt rows u i r → ⊥) → IsLatest rows leaf n 0
+    (latest_in (replicate k NoRow) slot)
 latest_none rows n k leaf None none = tt
 latest_none rows n k leaf (Some slot) none = elim (cases_lt slot k) [
   | inl inside ↦ subst (IsLatest rows leaf n 0) (sym (get_or-replicate k slot NoRow Lost inside)) (λ u i r before at is. none u i r at)
-  | inr past ↦ subst (IsLatest rows leaf n 0) (sym (get_or_past (replicate k NoRow) slot Lost (let many = length-replicate k NoRow in omega (arith, many, past)))) tt
+  | inr past ↦ subst (IsLatest rows leaf n 0) (sym (get_or_past (replicate k NoRow) slot Lost (let many = length-replicate k NoRow in
+      omega (arith, many, past)))) tt
 ]
 
-pub linked_none : (rows : List (List Row)) (m n : ℕ) (links : List (List Link)) (latest_rows : List Latest) → rows ≡ replicate m [] → length links ≡ m → (k : ℕ) × (latest_rows ≡ replicate k NoRow)
+pub linked_none : (rows : List (List Row)) (m n : ℕ) (links : List (List Link)) (latest_rows : List Latest) → rows ≡ replicate m [] → length links ≡ m →
+    (k : ℕ) × (latest_rows ≡ replicate k NoRow)
     → AreLinked rows n 0 links latest_rows
 linked_none rows m n links latest_rows none many no_rows =
     let no : (u i : ℕ) (r : Row) → RowAt rows u i r → ⊥ = λ u i r at. replicate_none m u i r (subst (λ (ls : List (List Row)). RowAt ls u i r) none at) in
     record {
       lanes = many ∙ sym (length-replicate m []) ∙ ap length (sym none);
       says = λ u k r before at. absurd (no u k r at);
-      ends = λ leaf. subst (λ (latest : List Latest). IsLatest rows leaf n 0 (latest_at latest leaf)) (sym no_rows.1) (latest_none rows n no_rows.0 leaf (slot_of leaf) no);
+      ends = λ leaf. subst (λ (latest : List Latest). IsLatest rows leaf n 0 (latest_at latest leaf)) (sym no_rows.1) (latest_none rows n no_rows.0 leaf
+          (slot_of leaf) no);
     }
 
 -- ---- one round more
@@ -131,14 +141,16 @@ RowAt-kept (lane ∷ lanes) (s ∷ rows) (suc p) k r at = RowAt-kept lanes rows 
 pub linked-with_round : (lanes : List (List Row)) (rows : List Row) (links : List (List Link)) (latest_rows : List Latest) → IsTable lanes
     → AreLinked lanes (rounds_in lanes) 0 links latest_rows → AreLinked (with_round lanes rows) (rounds_in lanes) 0 links latest_rows
 linked-with_round lanes rows links latest_rows table l =
-    linked-by lanes (with_round lanes rows) (RowAt-kept lanes rows) (rounds_in lanes) 0 (rounds_in lanes) 0 links latest_rows (sym (length-with_round lanes rows)) (λ u i before. before)
+    linked-by lanes (with_round lanes rows) (RowAt-kept lanes rows) (rounds_in lanes) 0 (rounds_in lanes) 0 links latest_rows
+    (sym (length-with_round lanes rows)) (λ u i before. before)
     (λ u i r before at. elim (RowAt-with_round lanes rows u i r at) [
       | inl a ↦ (before, a.1)
       | inr b ↦ absurd (let whole = table.whole u b.0 in elim before [ inl early ↦ omega (arith, early, whole, b.1) | inr never ↦ omega (arith, never.1) ])
     ]) l
 
 -- all rows of a round are linked
-pub linked_round : (rows : List (List Row)) (n : ℕ) (links : List (List Link)) (latest_rows : List Latest) → AreLinked rows n (length rows) links latest_rows → AreLinked rows (n + 1) 0 links latest_rows
+pub linked_round : (rows : List (List Row)) (n : ℕ) (links : List (List Link)) (latest_rows : List Latest) → AreLinked rows n (length rows) links
+    latest_rows → AreLinked rows (n + 1) 0 links latest_rows
 linked_round rows n links latest_rows l =
     linked-by rows rows (λ u i r at. at) n (length rows) (n + 1) 0 links latest_rows refl
     (λ u i before. elim before [ inl early ↦ inl (omega (arith, early)) | inr here ↦ inl (omega (arith, here.0)) ])
@@ -156,7 +168,8 @@ linked_round rows n links latest_rows l =
 -- ---- one row more
 
 -- what a slot keeps that was written: that, or nothing
-latest_written : (latest_rows : List Latest) (slot : ℕ) (latest : Latest) → (get_or (set latest_rows slot latest) slot Lost ≡ latest) ⊎ (get_or (set latest_rows slot latest) slot Lost ≡ Lost)
+latest_written : (latest_rows : List Latest) (slot : ℕ) (latest : Latest) → (get_or (set latest_rows slot latest) slot Lost ≡ latest)
+    ⊎ (get_or (set latest_rows slot latest) slot Lost ≡ Lost)
 latest_written latest_rows slot latest = elim (cases_lt slot (length latest_rows)) [
   | inl inside ↦ inl (get_or-set_same latest_rows slot latest Lost inside)
   | inr past ↦ inr (ap (λ (l : List Latest). get_or l slot Lost) (set_past latest_rows slot latest past) ∙ get_or_past latest_rows slot Lost past)
@@ -176,7 +189,8 @@ keeps_link codes rest n code link says full (inl more) =
           ∙ sym (get_or-map link_of codes k 0 Unknown (omega (arith, some, full, early)));
       here =
           let at : get_or (map link_of rest) n Unknown ≡ link_of code =
-          get_or-map link_of rest n 0 Unknown (omega (arith, many, all, full)) ∙ ap (λ (l : List ℕ). link_of (get_or l n 0)) more ∙ ap link_of (get_or_push (take n codes) code 0 n full) in
+          get_or-map link_of rest n 0 Unknown (omega (arith, many, all, full)) ∙ ap (λ (l : List ℕ). link_of (get_or l n 0)) more
+          ∙ ap link_of (get_or_push (take n codes) code 0 n full) in
           elim says [ inl is ↦ inl (at ∙ is) | inr none ↦ inr (at ∙ none) ];
     }
 keeps_link codes rest n code link says full (inr same) =
@@ -190,7 +204,8 @@ keeps_link codes rest n code link says full (inr same) =
     }
 
 -- the other links stay where a lane's links keep that of row n
-link_at-other : (links : List (List Link)) (lane : List Link) (p n u k : ℕ) (link : Link) → p < length links → KeepsLink (get_or links p []) lane n link → IsBefore n p u k
+link_at-other : (links : List (List Link)) (lane : List Link) (p n u k : ℕ) (link : Link) → p < length links → KeepsLink (get_or links p []) lane n link →
+    IsBefore n p u k
     → link_at (set links p lane) u k ≡ link_at links u k
 link_at-other links lane p n u k link within keeps before = elim (cases_eq u p) [
   | inl same ↦ (
@@ -202,7 +217,8 @@ link_at-other links lane p n u k link within keeps before = elim (cases_eq u p) 
 ]
 
 -- what the new link says holds of what stands there afterwards, which is the link, or nothing
-says_kept : (rows : List (List Row)) (leaf : Leaf) (links : List (List Link)) (lane : List Link) (p n : ℕ) (link : Link) → p < length links → KeepsLink (get_or links p []) lane n link
+says_kept : (rows : List (List Row)) (leaf : Leaf) (links : List (List Link)) (lane : List Link) (p n : ℕ) (link : Link) → p < length links →
+    KeepsLink (get_or links p []) lane n link
     → LinkMeans rows leaf p n 0 link → LinkMeans rows leaf p n 0 (link_at (set links p lane) p n)
 says_kept rows leaf links lane p n link within keeps says =
     let here : link_at (set links p lane) p n ≡ get_or lane n Unknown = ap (λ (l : List Link). get_or l n Unknown) (get_or-set_same links p lane [] within) in
@@ -240,7 +256,8 @@ slots_apart (Idle t) Empty i j at to same = absurd (let e : None ≡ Some j = to
 slots_apart (Wait t) b i j at to same = absurd (let e : None ≡ Some i = at in cc)
 slots_apart Empty b i j at to same = absurd (let e : None ≡ Some i = at in cc)
 
-module _ (rows : List (List Row)) (n p : ℕ) (links : List (List Link)) (latest_rows : List Latest) (r : Row) (at : RowAt rows p n r) (l : AreLinked rows n p links latest_rows) where
+module _ (rows : List (List Row)) (n p : ℕ) (links : List (List Link)) (latest_rows : List Latest) (r : Row) (at : RowAt rows p n r) (l : AreLinked rows n p
+    links latest_rows) where
   within : p < length links
   within = let inside = lane_within rows p n r at in let many = l.lanes in omega (arith, inside, many)
 
@@ -258,7 +275,8 @@ module _ (rows : List (List Row)) (n p : ℕ) (links : List (List Link)) (latest
     | inr e ↦ (
         let same : r ≡ s = sym (same_row u k s e.0 e.1 there) in
         subst (λ (x : Row). LinkMeans rows x.leaf u k 0 (link_at (set links p lane) u k)) same
-        (subst (λ v. LinkMeans rows r.leaf v k 0 (link_at (set links p lane) v k)) (sym e.0) (subst (λ i. LinkMeans rows r.leaf p i 0 (link_at (set links p lane) p i)) (sym e.1) (says_kept rows r.leaf links lane p n link within keeps says)))
+        (subst (λ v. LinkMeans rows r.leaf v k 0 (link_at (set links p lane) v k)) (sym e.0)
+        (subst (λ i. LinkMeans rows r.leaf p i 0 (link_at (set links p lane) p i)) (sym e.1) (says_kept rows r.leaf links lane p n link within keeps says)))
         )
   ]
 
@@ -271,7 +289,8 @@ module _ (rows : List (List Row)) (n p : ℕ) (links : List (List Link)) (latest
       ]) latest h
 
   -- the latest of the row's leaf, which has this link
-  latest_here : (place : Place) (link : Link) → place.lane ≡ p → place.round ≡ n → ((u i : ℕ) (s : Row) → IsBefore n p u i → RowAt rows u i s → s.leaf ≡ r.leaf → i < n) → LinkMeans rows r.leaf p n p link
+  latest_here : (place : Place) (link : Link) → place.lane ≡ p → place.round ≡ n → ((u i : ℕ) (s : Row) → IsBefore n p u i → RowAt rows u i s →
+      s.leaf ≡ r.leaf → i < n) → LinkMeans rows r.leaf p n p link
       → IsLatest rows r.leaf n (p + 1) (Last place link)
   latest_here place link lane round early says = (
     record {
@@ -302,14 +321,16 @@ module _ (rows : List (List Row)) (n p : ℕ) (links : List (List Link)) (latest
   says_rounds Unknown low says = tt
 
   -- the leaf's last row is in an earlier round, where it isn't in this one
-  last_low : (place : Place) → place.round ≡ n → (last : Place) (link : Link) → IsLatest rows r.leaf n p (Last last link) → nat_eq last.round place.round ≡ false → last.round < n
+  last_low : (place : Place) → place.round ≡ n → (last : Place) (link : Link) → IsLatest rows r.leaf n p (Last last link) →
+      nat_eq last.round place.round ≡ false → last.round < n
   last_low place round last link h apart = elim h.0.before [
     | inl low ↦ low
     | inr here ↦ absurd (eqb-false last.round place.round apart (here.0 ∙ sym round))
   ]
 
   -- so are all its rows
-  earlier_rows : (place : Place) → place.round ≡ n → (last : Place) (link : Link) → IsLatest rows r.leaf n p (Last last link) → nat_eq last.round place.round ≡ false
+  earlier_rows : (place : Place) → place.round ≡ n → (last : Place) (link : Link) → IsLatest rows r.leaf n p (Last last link) →
+      nat_eq last.round place.round ≡ false
       → (u i : ℕ) (s : Row) → IsBefore n p u i → RowAt rows u i s → s.leaf ≡ r.leaf → i < n
   earlier_rows place round last link h apart u i s before there of =
       let low = last_low place round last link h apart in
@@ -320,7 +341,8 @@ module _ (rows : List (List Row)) (n p : ℕ) (links : List (List Link)) (latest
       → (in_round : Bool) → nat_eq last.round place.round ≡ in_round → (on_lane : Bool) → nat_eq last.lane place.lane ≡ on_lane
       → (latest : Latest) → latest ≡ (if in_round then Lost else if on_lane then Last place link else Last place (After last))
       → IsLatest rows r.leaf n (p + 1) latest × LinkMeans rows r.leaf p n 0 (last_link latest)
-  next_after place lane round last link h true is_round on_lane is_lane latest is = subst (λ (k : Latest). IsLatest rows r.leaf n (p + 1) k × LinkMeans rows r.leaf p n 0 (last_link k)) (sym is) (tt, tt)
+  next_after place lane round last link h true is_round on_lane is_lane latest is = subst (λ (k : Latest). IsLatest rows r.leaf n (p + 1) k × LinkMeans rows
+      r.leaf p n 0 (last_link k)) (sym is) (tt, tt)
   next_after place lane round last link h false is_round true is_lane latest is =
       let low = last_low place round last link h is_round in
       let same : last.lane ≡ p = eqb-true last.lane place.lane is_lane ∙ lane in
@@ -342,7 +364,8 @@ module _ (rows : List (List Row)) (n p : ℕ) (links : List (List Link)) (latest
         of_leaf = h.0.of_leaf;
         last = λ u i s other before there of. h.0.last u i s before there of;
       } in
-      let there : (other : Place) → After last ≡ After other → other.round < n = λ other after. let same : last ≡ other = cc in subst (λ (k : Place). k.round < n) same low in
+      let there : (other : Place) → After last ≡ After other → other.round < n = λ other after. let same : last ≡ other = cc in
+      subst (λ (k : Place). k.round < n) same low in
       subst (λ (k : Latest). IsLatest rows r.leaf n (p + 1) k × LinkMeans rows r.leaf p n 0 (last_link k)) (sym is) (
         latest_here place (After last) lane round (earlier_rows place round last link h is_round) says,
         says_rounds (After last) there says,
@@ -352,10 +375,12 @@ module _ (rows : List (List Row)) (n p : ℕ) (links : List (List Link)) (latest
   latest_next : (place : Place) → place.lane ≡ p → place.round ≡ n → (latest : Latest) → IsLatest rows r.leaf n p latest
       → IsLatest rows r.leaf n (p + 1) (followed latest place) × LinkMeans rows r.leaf p n 0 (last_link (followed latest place))
   latest_next place lane round NoRow none = (
-    latest_here place First lane round (λ u i s before there of. absurd (none u i s before there of)) (λ u i s other before there of. none u i s before there of),
+    latest_here place First lane round (λ u i s before there of. absurd (none u i s before there of)) (λ u i s other before there of. none u i s before
+        there of),
     λ u i s other before there of. none u i s (before_row n p u i before) there of,
   )
-  latest_next place lane round (Last last link) h = next_after place lane round last link h (nat_eq last.round place.round) refl (nat_eq last.lane place.lane) refl (followed (Last last link) place) refl
+  latest_next place lane round (Last last link) h = next_after place lane round last link h (nat_eq last.round place.round) refl
+      (nat_eq last.lane place.lane) refl (followed (Last last link) place) refl
   latest_next place lane round Lost h = (tt, tt)
 
   -- what is kept of each leaf, with this of the row's
@@ -377,7 +402,8 @@ module _ (rows : List (List Row)) (n p : ℕ) (links : List (List Link)) (latest
   ]
 
   -- the row is linked
-  pub linked_next : (place : Place) (lane : List Link) → place.lane ≡ p → place.round ≡ n → KeepsLink (get_or links p []) lane n (last_link (followed (latest_at latest_rows r.leaf) place))
+  pub linked_next : (place : Place) (lane : List Link) → place.lane ≡ p → place.round ≡ n → KeepsLink (get_or links p []) lane n
+      (last_link (followed (latest_at latest_rows r.leaf) place))
       → AreLinked rows n (p + 1) (set links p lane) (with_latest latest_rows r.leaf (followed (latest_at latest_rows r.leaf) place))
   linked_next place lane on round keeps =
       let next = latest_next place on round (latest_at latest_rows r.leaf) (l.ends r.leaf) in
@@ -390,7 +416,8 @@ module _ (rows : List (List Row)) (n p : ℕ) (links : List (List Link)) (latest
 -- ---- what a look at a link tells
 
 -- the row to which the link leads is posted, and so are the earlier rows of the leaf
-earlier_by_link : (rows : List (List Row)) (s : State) → ArePostedInOrder rows s → (leaf : Leaf) (p k : ℕ) (link : Link) → LinkMeans rows leaf p k 0 link → posted_by s link ≡ Some true
+earlier_by_link : (rows : List (List Row)) (s : State) → ArePostedInOrder rows s → (leaf : Leaf) (p k : ℕ) (link : Link) → LinkMeans rows leaf p k 0 link →
+    posted_by s link ≡ Some true
     → EarlierPosted rows s.lanes p k leaf
 earlier_by_link rows s order leaf p k First says told = λ u other i r early at is. absurd (says u i r other (inl early) at is)
 earlier_by_link rows s order leaf p k (After place) link told = λ u other i r early at is.
@@ -445,14 +472,16 @@ waiting_not_due rows window s p q (inr (below, (u, at, waited))) due =
     absurd (let posted = earlier q waited.other j v early there (is ∙ ap (λ (x : Row). x.leaf) same) in omega (arith, posted, low))
 
 -- all rows before the least posted count are posted
-pub earlier_at_least : (rows : List (List Row)) (s : State) (p k : ℕ) (leaf : Leaf) → length s.lanes ≡ length rows → k ≤ least_posted s → EarlierPosted rows s.lanes p k leaf
+pub earlier_at_least : (rows : List (List Row)) (s : State) (p k : ℕ) (leaf : Leaf) → length s.lanes ≡ length rows → k ≤ least_posted s →
+    EarlierPosted rows s.lanes p k leaf
 earlier_at_least rows s p k leaf many low q other j r early at is =
     let inside = lane_within rows q j r at in
     let least = least_le s.lanes q (omega (arith, inside, many)) in
     omega (arith, early, low, least)
 
 -- the link that a table's fields hold for a row
-pub linked_says : (table : Table) (links : List (List Link)) (latest_rows : List Latest) → IsLinkedTable table links latest_rows → (seen : Table) → table ≡ seen → (p k : ℕ) (r : Row) (lane : List Link) (link : Link)
+pub linked_says : (table : Table) (links : List (List Link)) (latest_rows : List Latest) → IsLinkedTable table links latest_rows → (seen : Table) →
+    table ≡ seen → (p k : ℕ) (r : Row) (lane : List Link) (link : Link)
     → k < rounds_in seen.lanes → lane ≡ get_or links p lane → link ≡ get_or lane k Unknown → RowAt seen.lanes p k r → LinkMeans seen.lanes r.leaf p k 0 link
 linked_says table links latest_rows h seen view p k r lane link round lane_is link_is at =
     subst (λ (t : Table). LinkMeans t.lanes r.leaf p k 0 link) view (
@@ -460,11 +489,13 @@ linked_says table links latest_rows h seen view p k r lane link round lane_is li
     let there : RowAt table.lanes p k r = subst (λ (t : Table). RowAt t.lanes p k r) (sym view) at in
     let many = h.linked.lanes in
     let inside = lane_within table.lanes p k r there in
-    let here : link ≡ link_at links p k = link_is ∙ ap (λ (l : List Link). get_or l k Unknown) (lane_is ∙ get_or_default links p lane [] (omega (arith, many, inside))) in
+    let here : link ≡ link_at links p k = link_is ∙ ap (λ (l : List Link). get_or l k Unknown) (lane_is ∙ get_or_default links p lane []
+    (omega (arith, many, inside))) in
     subst (LinkMeans table.lanes r.leaf p k 0) (sym here) (h.linked.says p k r (inl early) there)
     )
 
-pub rounds_in-with_round : (lanes : List (List Row)) (rows : List Row) → length rows ≡ length lanes → 1 ≤ length lanes → rounds_in (with_round lanes rows) ≡ rounds_in lanes + 1
+pub rounds_in-with_round : (lanes : List (List Row)) (rows : List Row) → length rows ≡ length lanes → 1 ≤ length lanes →
+    rounds_in (with_round lanes rows) ≡ rounds_in lanes + 1
 rounds_in-with_round lanes rows whole some = length-lane_of-with_round lanes rows 0 whole (omega (arith, some))
 
 none_of_none : (m : ℕ) → rounds_in (replicate m []) ≡ 0

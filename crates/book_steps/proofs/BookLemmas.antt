@@ -1,5 +1,6 @@
 -- What an event keeps of a book.
-use Rattle.std.proofs.Common.{◌≡◌, ◌≢◌, inl, inr, ℕ, zero, suc, ◌+◌, ◌-◌, ◌*◌, ◌<◌, ◌≤◌, Bool, true, false, List, [], ◌∷◌, ◌++◌, Option, None, Some, length, set, replicate, refl, sym, ap, ◌∙◌, subst, arith, eq-eqb}
+use Rattle.std.proofs.Common.{◌≡◌, ◌≢◌, inl, inr, ℕ, zero, suc, ◌+◌, ◌-◌, ◌*◌, ◌<◌, ◌≤◌, Bool, true, false, List, [], ◌∷◌, ◌++◌, Option, None, Some}
+use Rattle.std.proofs.Common.{length, set, replicate, refl, sym, ap, ◌∙◌, subst, arith, eq-eqb}
 use Rattle.std.specs.Prelude.{slice_get, slice_index}
 use Rattle.std.proofs.lemmas.Bool.{cases_Bool, eqb-true}
 use Rattle.std.proofs.lemmas.List.{get_or-set_other, get_or-set_same, length-replicate, length-set}
@@ -26,8 +27,13 @@ use Rattle.book_steps.specs.Turns.{with_ticks}
 
 -- ---- the events
 
-pub IsLed-next : (p : PlanContents) → IsPlan p → (window : ℕ) (s : State) → IsLed p window s → (event : Event) → IsLegal (plan_rows p) window s event → IsLed p window (after s event)
-IsLed-next p h window s (log, part) event legal = (log ++ event ∷ [], LogPart-push p h window s log (most_events p) part event legal (most_events p) (omega arith))
+pub IsLed-next : (p : PlanContents) → IsPlan p → (window : ℕ) (s : State) → IsLed p window s → (event : Event) → IsLegal (plan_rows p) window s event →
+    IsLed p window (after s event)
+IsLed-next p h window s (log, part) event legal = (
+  log ++ event ∷ [],
+  LogPart-push p h window s log (most_events p) part event legal (most_events p)
+      (omega arith),
+)
 
 pub IsLed-start : (p : PlanContents) → IsPlan p → (window : ℕ) (s : State) → s ≡ start p.tree.processors → IsLed p window s
 IsLed-start p h window s begins = ([], LogPart-start p h window s [] (most_events p) begins refl (omega arith))
@@ -38,17 +44,21 @@ IsLed-start p h window s begins = ([], LogPart-start p h window s [] (most_event
 pub is_task : (leaf : Leaf) (task : TaskId) → leaf ≡ Task task → is_of_task task.0 leaf ≡ true
 is_task leaf task e = ap (is_of_task task.0) e ∙ eq-eqb task.0 task.0 refl
 
-pub with_ticks-at : (totals : List ℕ) (leaf : Leaf) (n t : ℕ) → t < length totals → slice_index (with_ticks totals leaf n) t ≡ slice_index totals t + bit (is_of_task t leaf) * n
+pub with_ticks-at : (totals : List ℕ) (leaf : Leaf) (n t : ℕ) → t < length totals → slice_index (with_ticks totals leaf n) t ≡ slice_index totals t + bit
+    (is_of_task t leaf) * n
 with_ticks-at totals (Task task) n t within = elim (cases_Bool (is_of_task t (Task task))) [
   | inl on ↦ (
       let same : task.0 ≡ t = eqb-true task.0 t on in
-      let here : slice_index (set totals t (slice_index totals t + n)) t ≡ slice_index totals t + n = get_or-set_same totals t (slice_index totals t + n) 0 within in
-      let there : slice_index (set totals task.0 (slice_index totals task.0 + n)) t ≡ slice_index totals t + n = subst (λ i. slice_index (set totals i (slice_index totals i + n)) t ≡ slice_index totals t + n) (sym same) here in
+      let here : slice_index (set totals t (slice_index totals t + n)) t ≡ slice_index totals t + n = get_or-set_same totals t (slice_index totals t + n) 0
+      within in
+      let there : slice_index (set totals task.0 (slice_index totals task.0 + n)) t ≡ slice_index totals t + n =
+      subst (λ i. slice_index (set totals i (slice_index totals i + n)) t ≡ slice_index totals t + n) (sym same) here in
       let one : bit (is_of_task t (Task task)) * n ≡ n = ap (λ b. bit b * n) on ∙ omega arith in
       there ∙ ap (λ k. slice_index totals t + k) (sym one)
       )
   | inr off ↦ (
-      let other : t ≢ task.0 = λ same. let on : is_of_task t (Task task) ≡ true = eq-eqb task.0 t (sym same) in let both : true ≡ false = sym on ∙ off in absurd (cc) in
+      let other : t ≢ task.0 = λ same. let on : is_of_task t (Task task) ≡ true = eq-eqb task.0 t (sym same) in let both : true ≡ false = sym on ∙ off in
+      absurd (cc) in
       let none : bit (is_of_task t (Task task)) * n ≡ 0 = ap (λ b. bit b * n) off ∙ omega arith in
       get_or-set_other totals task.0 t (slice_index totals task.0 + n) 0 other ∙ omega (arith, none)
       )
@@ -64,7 +74,8 @@ length-with_ticks totals (Idle number) n = refl
 length-with_ticks totals Empty n = refl
 
 -- a lane whose count stays leaves the totals
-pub AreTotals-same : (p : PlanContents) (s : State) (totals : List ℕ) (q : ℕ) (lane : LaneState) (halted : Bool) → q < length s.lanes → lane.posted ≡ posted_at s q → AreTotals p s totals
+pub AreTotals-same : (p : PlanContents) (s : State) (totals : List ℕ) (q : ℕ) (lane : LaneState) (halted : Bool) → q < length s.lanes →
+    lane.posted ≡ posted_at s q → AreTotals p s totals
     → AreTotals p (record { lanes = set s.lanes q lane; halted = halted }) totals
 AreTotals-same p s totals q lane halted within same are = record {
   many = are.many;
@@ -72,8 +83,10 @@ AreTotals-same p s totals q lane halted within same are = record {
 }
 
 -- a post adds the row's ticks
-pub AreTotals-post : (p : PlanContents) (s : State) (totals : List ℕ) (q : ℕ) (r : Row) → q < length s.lanes → RowAt (plan_rows p) q (posted_at s q) r → AreTotals p s totals
-    → AreTotals p (record { lanes = set s.lanes q (record { posted = posted_at s q + 1; out = false }); halted = s.halted }) (with_ticks totals r.leaf (r.end - r.start))
+pub AreTotals-post : (p : PlanContents) (s : State) (totals : List ℕ) (q : ℕ) (r : Row) → q < length s.lanes → RowAt (plan_rows p) q (posted_at s q) r →
+    AreTotals p s totals
+    → AreTotals p (record { lanes = set s.lanes q (record { posted = posted_at s q + 1; out = false }); halted = s.halted }) (with_ticks totals r.leaf
+    (r.end - r.start))
 AreTotals-post p s totals q r within at are = record {
   many = length-with_ticks totals r.leaf (r.end - r.start) ∙ are.many;
   each = λ t below.
@@ -95,7 +108,8 @@ zero_at (suc n) (suc t) = zero_at n t
 pub AreTotals-start : (p : PlanContents) (s : State) (totals : List ℕ) (m : ℕ) → s ≡ start m → totals ≡ replicate (length p.set.tasks) 0 → AreTotals p s totals
 AreTotals-start p s totals m begins none = record {
   many = ap length none ∙ length-replicate (length p.set.tasks) 0;
-  each = λ t below. ap (λ (xs : List ℕ). slice_index xs t) none ∙ zero_at (length p.set.tasks) t ∙ sym (no_ticks t (plan_rows p) m) ∙ ap (λ (u : State). posted_ticks (plan_rows p) u t) (sym begins);
+  each = λ t below. ap (λ (xs : List ℕ). slice_index xs t) none ∙ zero_at (length p.set.tasks) t ∙ sym (no_ticks t (plan_rows p) m)
+      ∙ ap (λ (u : State). posted_ticks (plan_rows p) u t) (sym begins);
 }
 
 -- ---- the faults
@@ -144,12 +158,15 @@ AreFaults-out s rounds q lane whys out within are = record {
     none why had = let both : true ≡ false = sym out ∙ are.back q why had in cc
 
 -- one fault more
-pub AreFaults-halt : (s : State) (rounds q why : ℕ) (lane : LaneState) (whys : List (Option ℕ)) → lane.out ≡ false → lane.posted < rounds → q < length s.lanes → AreFaults s rounds whys
+pub AreFaults-halt : (s : State) (rounds q why : ℕ) (lane : LaneState) (whys : List (Option ℕ)) → lane.out ≡ false → lane.posted < rounds →
+    q < length s.lanes → AreFaults s rounds whys
     → AreFaults (record { lanes = set s.lanes q lane; halted = true }) rounds (set whys q (Some why))
 AreFaults-halt s rounds q why lane whys free below within are = record {
   many = length-set whys q (Some why) ∙ are.many ∙ sym (length-set s.lanes q lane);
-  row = each_lane-set (λ v l. (w : ℕ) → HadFault (set whys q (Some why)) v w → l.posted < rounds) s.lanes q lane within (λ w had. below) (λ v other w had. are.row v w (before v w other had));
-  back = each_lane-set (λ v l. (w : ℕ) → HadFault (set whys q (Some why)) v w → l.out ≡ false) s.lanes q lane within (λ w had. free) (λ v other w had. are.back v w (before v w other had));
+  row = each_lane-set (λ v l. (w : ℕ) → HadFault (set whys q (Some why)) v w → l.posted < rounds) s.lanes q lane within (λ w had. below)
+      (λ v other w had. are.row v w (before v w other had));
+  back = each_lane-set (λ v l. (w : ℕ) → HadFault (set whys q (Some why)) v w → l.out ≡ false) s.lanes q lane within (λ w had. free)
+      (λ v other w had. are.back v w (before v w other had));
   halts = λ v w had. refl;
   some = λ _. (q, why, slice_get-set_here whys q (Some why) (let many = are.many in omega (arith, within, many)));
 }

@@ -1,5 +1,6 @@
 -- Rounds that are held one behind the other, each with a row for each of m processors.
-use Rattle.std.proofs.Common.{◌≡◌, inl, inr, ℕ, zero, suc, ◌+◌, ◌-◌, ◌*◌, ◌<◌, ◌≤◌, List, [], ◌∷◌, ◌++◌, None, Some, drop, length, map, take, refl, sym, ap, ◌∙◌, subst, arith}
+use Rattle.std.proofs.Common.{◌≡◌, inl, inr, ℕ, zero, suc, ◌+◌, ◌-◌, ◌*◌, ◌<◌, ◌≤◌, List, [], ◌∷◌, ◌++◌, None, Some, drop, length, map, take, refl}
+use Rattle.std.proofs.Common.{sym, ap, ◌∙◌, subst, arith}
 use Rattle.std.specs.Prelude.{option_map, slice_get}
 use Rattle.std.proofs.lemmas.Bool.{cases_order}
 use Rattle.std.proofs.lemmas.List.{length-append, length-drop, length-map}
@@ -61,7 +62,8 @@ module _ (all : List (List Row)) (m k n : ℕ) (items : List PendingRow) (are : 
   pub is_held : (i q : ℕ) → k + i < n → q < m → i * m + q < length items
   is_held i q low inside = let many = are.many in let there = place_within i (n - k) m q (omega (arith, low)) inside in omega (arith, many, there)
 
-  pub ArePending-more : (given : List ℕ) (rows : List Row) → length rows ≡ m → k ≤ n → ((q : ℕ) (row : Row) → slice_get rows q ≡ Some row → IsPending all q n (pending given row)) → (more : ℕ) → more ≡ n + 1
+  pub ArePending-more : (given : List ℕ) (rows : List Row) → length rows ≡ m → k ≤ n → ((q : ℕ) (row : Row) → slice_get rows q ≡ Some row →
+      IsPending all q n (pending given row)) → (more : ℕ) → more ≡ n + 1
       → ArePending all m k more (items ++ map (pending given) rows)
   ArePending-more given rows wide up new more one = record {
     many =
@@ -79,17 +81,21 @@ module _ (all : List (List Row)) (m k n : ℕ) (items : List PendingRow) (are : 
     ];
   }
     where
-      in_round : (i q : ℕ) (next : PendingRow) → q < m → (j : ℕ) → i * m + q ≡ length items + j → slice_get (items ++ map (pending given) rows) (i * m + q) ≡ Some next → IsPending all q (k + i) next
+      in_round : (i q : ℕ) (next : PendingRow) → q < m → (j : ℕ) → i * m + q ≡ length items + j → slice_get (items ++ map (pending given) rows)
+          (i * m + q) ≡ Some next → IsPending all q (k + i) next
       in_round i q next inside j place at =
-          let there : slice_get (map (pending given) rows) j ≡ Some next = sym (slice_get-append_right items (map (pending given) rows) (i * m + q) j place) ∙ at in
-          let low : j < length rows = let within = slice_get_within (map (pending given) rows) j next there in let round = length-map rows (pending given) in omega (arith, within, round) in
+          let there : slice_get (map (pending given) rows) j ≡ Some next = sym (slice_get-append_right items (map (pending given) rows) (i * m + q) j place)
+          ∙ at in
+          let low : j < length rows = let within = slice_get_within (map (pending given) rows) j next there in let round = length-map rows (pending given)
+          in omega (arith, within, round) in
           let many = are.many in
           let same = same_place i (n - k) m q j inside (omega (arith, low, wide)) (omega (arith, place, many)) in
           let (row, got) = slice_get-some rows j low in
           let e : Some (pending given row) ≡ Some next = sym (slice_get-map (pending given) rows j ∙ ap (option_map (pending given)) got) ∙ there in
           let is : pending given row ≡ next = cc in
           let round : k + i ≡ n = let d = same.0 in omega (arith, d, up) in
-          subst (λ x. IsPending all q (k + i) x) is (subst (λ r. IsPending all q r (pending given row)) (sym round) (new q row (subst (λ u. slice_get rows u ≡ Some row) (sym same.1) got)))
+          subst (λ x. IsPending all q (k + i) x) is (subst (λ r. IsPending all q r (pending given row)) (sym round)
+          (new q row (subst (λ u. slice_get rows u ≡ Some row) (sym same.1) got)))
 
   pub ArePending-less : k < n → (next : ℕ) → next ≡ k + 1 → ArePending all m next n (drop m items)
   ArePending-less some next one = record {
@@ -100,5 +106,6 @@ module _ (all : List (List Row)) (m k n : ℕ) (items : List PendingRow) (are : 
         omega (arith, left, many, rounds);
     each = λ i q row inside at.
         let place : (i + 1) * m + q ≡ m + (i * m + q) = omega arith in
-        subst (λ r. IsPending all q r row) (omega (arith, one)) (are.each (i + 1) q row inside (sym (slice_get-drop m items (i * m + q) ((i + 1) * m + q) place) ∙ at));
+        subst (λ r. IsPending all q r row) (omega (arith, one)) (are.each (i + 1) q row inside (sym (slice_get-drop m items (i * m + q) ((i + 1) * m + q)
+        place) ∙ at));
   }

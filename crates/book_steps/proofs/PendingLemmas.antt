@@ -1,5 +1,6 @@
 -- What an event and a computed round keep of the pending rows.
-use Rattle.std.proofs.Common.{◌≡◌, ◌≢◌, inl, inr, ℕ, zero, suc, ◌+◌, ◌-◌, ◌*◌, ◌<◌, ◌≤◌, ◌^◌, ◌⊎◌, Bool, true, false, List, [], ◌∷◌, ◌++◌, None, Some, drop, length, map, set, get_or, take, replicate, refl, sym, ap, ◌∙◌, subst, arith, add-one}
+use Rattle.std.proofs.Common.{◌≡◌, ◌≢◌, inl, inr, ℕ, zero, suc, ◌+◌, ◌-◌, ◌*◌, ◌<◌, ◌≤◌, ◌^◌, ◌⊎◌, Bool, true, false, List, [], ◌∷◌, ◌++◌, None, Some}
+use Rattle.std.proofs.Common.{drop, length, map, set, get_or, take, replicate, refl, sym, ap, ◌∙◌, subst, arith, add-one}
 use Rattle.std.specs.Prelude.{slice_get, slice_index}
 use Rattle.std.proofs.lemmas.Bool.{cases_eq, eq-eqb}
 use Rattle.std.proofs.lemmas.List.{get_or-set_other, get_or-set_same, length-set, length-replicate}
@@ -29,7 +30,8 @@ use Rattle.plan_rounds.proofs.AgainLemmas.{new_row, row_of_plan}
 use Rattle.plan_rounds.specs.Parts.{RowsKept}
 use Rattle.plan_rounds.proofs.RowLemmas.{RowsKept-set, RowsKept-start}
 use Rattle.book_steps.specs.declared.ring.PendingRow.{PendingRow}
-use Rattle.book_steps.specs.Pending.{AreCounted, AreNoted, ArePending, CanCount, CanNote, IsPending, PendingContents, PendingKept, all_computed, given_to, last_of, pending, rounds_up_to, with_last}
+use Rattle.book_steps.specs.Pending.{AreCounted, AreNoted, ArePending, CanCount, CanNote, IsPending, PendingContents, PendingKept, all_computed}
+use Rattle.book_steps.specs.Pending.{given_to, last_of, pending, rounds_up_to, with_last}
 use Rattle.book_steps.specs.Sources.{GoesOnWithPlan}
 use Rattle.book_steps.specs.Books.{no_rows}
 use Rattle.book_steps.specs.Turns.{with_ticks}
@@ -54,7 +56,8 @@ ticks_of_none t [] = refl
 ticks_of_none t (lane ∷ lanes) = let rest = ticks_of_none t lanes in omega (arith, rest)
 
 -- one round more of ticks
-ticks_of_next : (t k : ℕ) (lanes : List (List Row)) (rows : List Row) → length rows ≡ length lanes → ((q : ℕ) (r : Row) → slice_get rows q ≡ Some r → RowAt lanes q k r)
+ticks_of_next : (t k : ℕ) (lanes : List (List Row)) (rows : List Row) → length rows ≡ length lanes → ((q : ℕ) (r : Row) → slice_get rows q ≡ Some r →
+    RowAt lanes q k r)
     → ticks_before t (suc k) lanes ≡ ticks_before t k lanes + ticks_in t rows
 ticks_of_next t k [] [] many at = refl
 ticks_of_next t k [] (r ∷ rows) many at = absurd (omega (arith, many))
@@ -90,7 +93,8 @@ AreCounted-none given = record { many = refl; each = λ t low. omega arith }
 pub AreCounted-all : (old : List ℕ) (rows : List Row) (k : ℕ) (new : List ℕ) → length rows ≤ k → AreCounted old (take k rows) new → AreCounted old rows new
 AreCounted-all old rows k new past are = subst (λ (rs : List Row). AreCounted old rs new) (take_whole rows k past) are
 
-module _ (old : List ℕ) (rows : List Row) (can : CanCount old rows) (k : ℕ) (new : List ℕ) (are : AreCounted old (take k rows) new) (r : Row) (at : slice_get rows k ≡ Some r) where
+module _ (old : List ℕ) (rows : List Row) (can : CanCount old rows) (k : ℕ) (new : List ℕ) (are : AreCounted old (take k rows) new) (r : Row)
+    (at : slice_get rows k ≡ Some r) where
   -- the ticks of the next row can be added
   pub can_add : (task : TaskId) → r.leaf ≡ Task task → (task.0 < length new) × (slice_index new task.0 + (r.end - r.start) < 2 ^ 127)
   can_add task is =
@@ -119,18 +123,21 @@ module _ (old : List ℕ) (rows : List Row) (can : CanCount old rows) (k : ℕ) 
 pub AreNoted-none : (tasks round : ℕ) (old : List ℕ) → AreNoted tasks round old [] old
 AreNoted-none tasks round old = record { many = refl; least = λ i n low before. before; each = λ q r task at is. absurd (let e : None ≡ Some r = at in cc) }
 
-pub AreNoted-all : (tasks round : ℕ) (old : List ℕ) (rows : List Row) (k : ℕ) (new : List ℕ) → length rows ≤ k → AreNoted tasks round old (take k rows) new → AreNoted tasks round old rows new
+pub AreNoted-all : (tasks round : ℕ) (old : List ℕ) (rows : List Row) (k : ℕ) (new : List ℕ) → length rows ≤ k → AreNoted tasks round old (take k rows) new
+    → AreNoted tasks round old rows new
 AreNoted-all tasks round old rows k new past are = subst (λ (rs : List Row). AreNoted tasks round old rs new) (take_whole rows k past) are
 
 -- the first rows are all but the last of them
-take_more : (rows : List Row) (k q : ℕ) (r : Row) → slice_get (take (suc k) rows) q ≡ Some r → (slice_get (take k rows) q ≡ Some r) ⊎ ((q ≡ k) × (slice_get rows k ≡ Some r))
+take_more : (rows : List Row) (k q : ℕ) (r : Row) → slice_get (take (suc k) rows) q ≡ Some r → (slice_get (take k rows) q ≡ Some r)
+    ⊎ ((q ≡ k) × (slice_get rows k ≡ Some r))
 take_more [] k q r at = absurd (let e : None ≡ Some r = at in cc)
 take_more (s ∷ rows) zero zero r at = inr (refl, at)
 take_more (s ∷ rows) zero (suc q) r at = absurd (let e : None ≡ Some r = at in cc)
 take_more (s ∷ rows) (suc k) zero r at = inl at
 take_more (s ∷ rows) (suc k) (suc q) r at = elim (take_more rows k q r at) [ inl before ↦ inl before | inr (same, last) ↦ inr (ap suc same, last) ]
 
-module _ (tasks round : ℕ) (old : List ℕ) (rows : List Row) (k : ℕ) (new : List ℕ) (are : AreNoted tasks round old (take k rows) new) (r : Row) (at : slice_get rows k ≡ Some r) where
+module _ (tasks round : ℕ) (old : List ℕ) (rows : List Row) (k : ℕ) (new : List ℕ) (are : AreNoted tasks round old (take k rows) new) (r : Row)
+    (at : slice_get rows k ≡ Some r) where
   -- a row of no task is noted nowhere
   pub AreNoted-skip : ((task : TaskId) → r.leaf ≢ Task task) → AreNoted tasks round old (take (k + 1) rows) new
   AreNoted-skip none = record {
@@ -161,7 +168,8 @@ module _ (tasks round : ℕ) (old : List ℕ) (rows : List Row) (k : ℕ) (new :
         | inl before ↦ (
             let up = are.each q s other before of in
             elim (cases_eq (q * tasks + other.0) place) [
-              | inl same ↦ (let here = get_or-set_same new place round 0 within in let e = ap (slice_index (set new place round)) same in omega (arith, here, e))
+              | inl same ↦ (let here = get_or-set_same new place round 0 within in let e = ap (slice_index (set new place round)) same in
+                  omega (arith, here, e))
               | inr apart ↦ (let kept = get_or-set_other new place (q * tasks + other.0) round 0 apart in omega (arith, kept, up))
             ]
             )
@@ -178,14 +186,16 @@ module _ (tasks round : ℕ) (old : List ℕ) (rows : List Row) (k : ℕ) (new :
       ];
     }
 
-  pub AreNoted-leaf : (leaf : Leaf) → r.leaf ≡ leaf → ((task : TaskId) → leaf ≡ Task task → k * tasks + task.0 < length new) → AreNoted tasks round old (take (k + 1) rows) (with_last new tasks round k leaf)
+  pub AreNoted-leaf : (leaf : Leaf) → r.leaf ≡ leaf → ((task : TaskId) → leaf ≡ Task task → k * tasks + task.0 < length new) → AreNoted tasks round old
+      (take (k + 1) rows) (with_last new tasks round k leaf)
   AreNoted-leaf (Task task) is within = AreNoted-next task is (within task refl)
   AreNoted-leaf (Wait other) is within = AreNoted-skip (λ task named. absurd (let e : Wait other ≡ Task task = sym is ∙ named in cc))
   AreNoted-leaf (Idle number) is within = AreNoted-skip (λ task named. absurd (let e : Idle number ≡ Task task = sym is ∙ named in cc))
   AreNoted-leaf Empty is within = AreNoted-skip (λ task named. absurd (let e : Empty ≡ Task task = sym is ∙ named in cc))
 
 -- there is a place for the processor and the task of each row of a round whose ticks can be counted
-pub can_note : (given : List ℕ) (rows : List Row) (places width : ℕ) → CanCount given rows → length rows ≡ width → places ≡ width * length given → CanNote (length given) rows places
+pub can_note : (given : List ℕ) (rows : List Row) (places width : ℕ) → CanCount given rows → length rows ≡ width → places ≡ width * length given →
+    CanNote (length given) rows places
 can_note given rows places width can wide all q r task at is =
     let inside = slice_get_within rows q r at in
     let there = place_within q width (length given) task.0 (omega (arith, inside, wide)) (can.tasks q r task at is) in
@@ -218,7 +228,8 @@ module _ (p : PlanContents) (h : IsPlan p) where
         let lanes : lanes_at p r.source.tick ≡ replicate processors [] = ap (lanes_at p) first ∙ no_lanes p h in
         let before : rounds_before p r.source.tick ≡ 0 = ap (rounds_before p) first ∙ no_rounds p in
         record {
-          kept = RowsKept-start p window s (all_computed p r) (AreRoundsOf-first p h (all_computed p r) belongs.core (at_first p r.source belongs first) first (goes_on p r.source belongs).0 wide lanes (omega (arith, before))) lanes begins;
+          kept = RowsKept-start p window s (all_computed p r) (AreRoundsOf-first p h (all_computed p r) belongs.core (at_first p r.source belongs first)
+              first (goes_on p r.source belongs).0 wide lanes (omega (arith, before))) lanes begins;
           source = belongs;
           computed = none ∙ sym before;
           counted = omega (arith, none);
@@ -228,7 +239,8 @@ module _ (p : PlanContents) (h : IsPlan p) where
           });
           places = ap (λ (b : Buffer PendingRow). b.capacity) held;
           tasks = ap length given ∙ length-replicate (length p.set.tasks) 0;
-          given = λ t below. ap (λ (xs : List ℕ). slice_index xs t) given ∙ zero_in (length p.set.tasks) t ∙ sym (ap (λ n. ticks_before t n all) none ∙ ticks_of_none t all);
+          given = λ t below. ap (λ (xs : List ℕ). slice_index xs t) given ∙ zero_in (length p.set.tasks) t ∙ sym (ap (λ n. ticks_before t n all) none
+              ∙ ticks_of_none t all);
           last_places = ap length last ∙ length-replicate (processors * length p.set.tasks) 0;
           last = λ q j row low at. absurd (omega (arith, none, low));
         }
@@ -250,7 +262,8 @@ module _ (p : PlanContents) (h : IsPlan p) where
     -- a lane whose count stays leaves the pending rows
     pub PendingKept-same : q < length s.lanes → lane.posted ≡ posted_at s q → (lane.out ≡ true → lane.posted < r.computed) → PendingKept p window next r
     PendingKept-same within same out = record {
-      kept = RowsKept-set p window s q lane halted (all_computed p r) k.kept within (omega (arith, same)) (let held = k.kept.posted q in omega (arith, same, held)) (λ o. let below = out o in let is = computed_is window s r k in omega (arith, below, is));
+      kept = RowsKept-set p window s q lane halted (all_computed p r) k.kept within (omega (arith, same)) (let held = k.kept.posted q in
+          omega (arith, same, held)) (λ o. let below = out o in let is = computed_is window s r k in omega (arith, below, is));
       source = k.source;
       computed = k.computed;
       counted = k.counted;
@@ -264,7 +277,8 @@ module _ (p : PlanContents) (h : IsPlan p) where
 
     module _ (within : q < length s.lanes) (below : posted_at s q < r.computed) (one : lane.posted ≡ posted_at s q + 1) (free : lane.out ≡ false) where
       kept_next : RowsKept p window next (all_computed p r)
-      kept_next = RowsKept-set p window s q lane halted (all_computed p r) k.kept within (omega (arith, one)) (let is = computed_is window s r k in omega (arith, one, below, is)) (λ o. let both : true ≡ false = sym o ∙ free in absurd (cc))
+      kept_next = RowsKept-set p window s q lane halted (all_computed p r) k.kept within (omega (arith, one)) (let is = computed_is window s r k in
+          omega (arith, one, below, is)) (λ o. let both : true ≡ false = sym o ∙ free in absurd (cc))
 
       -- a post lets the least posted count stay, or go up by one
       least_stays : least_posted s ≤ least_posted next
@@ -307,7 +321,8 @@ module _ (p : PlanContents) (h : IsPlan p) where
             let wide : r.width ≡ processors = k.kept.rounds.width in
             let low = least_le s.lanes q within in
             subst (λ w. ArePending all processors (least_posted next) r.computed (drop w r.held.items)) (sym wide)
-            (ArePending-less all processors (least_posted s) r.computed r.held.items k.rows (omega (arith, low, below)) (least_posted next) (let most = least_most in omega (arith, moved, most)));
+            (ArePending-less all processors (least_posted s) r.computed r.held.items k.rows (omega (arith, low, below)) (least_posted next) (let most =
+            least_most in omega (arith, moved, most)));
         places = k.places;
         tasks = k.tasks;
         given = k.given;
@@ -336,7 +351,8 @@ module _ (p : PlanContents) (h : IsPlan p) where
           let long : length (lane_of (lanes_at p start) q) ≡ rounds_before p start = table.whole q (omega (arith, inside, many)) ∙ count in
           let there = new_row (lanes_at p start) rows q r (omega (arith, inside, many)) at in
           row_of_plan p h end round.last round.below q (rounds_before p start) r inside
-          (subst (λ (ls : List (List Row)). RowAt ls q (rounds_before p start) r) (sym (next_lanes p h start end round)) (subst (λ n. RowAt (with_round (lanes_at p start) rows) q n r) long there))
+          (subst (λ (ls : List (List Row)). RowAt ls q (rounds_before p start) r) (sym (next_lanes p h start end round))
+          (subst (λ n. RowAt (with_round (lanes_at p start) rows) q n r) long there))
 
       -- a task's ticks up to the round's end
       pub ticks_to_end : (t : ℕ) → ticks_before t (rounds_before p start + 1) all ≡ ticks_before t (rounds_before p start) all + ticks_in t rows
@@ -351,7 +367,8 @@ module _ (p : PlanContents) (h : IsPlan p) where
           let table = plan_table p h in
           let inside = row_within all table 0 (rounds_before p start) r at in
           let most = ticks_before-le all table t (rounds_before p start + 1) (let low = inside.1 in omega (arith, low)) in
-          let ends : end_after 0 (take (rounds_before p start + 1) (lane_of all 0)) ≡ r.end = rw add-one (end_after_row (lane_of all 0) 0 (rounds_before p start) r at) in
+          let ends : end_after 0 (take (rounds_before p start + 1) (lane_of all 0)) ≡ r.end = rw add-one (end_after_row (lane_of all 0) 0
+          (rounds_before p start) r at) in
           let fits = (table.forward 0 (rounds_before p start) r at).1 in
           omega (arith, most, ends, fits)
 
@@ -374,9 +391,11 @@ module _ (p : PlanContents) (h : IsPlan p) where
     }
 
     module _ (m : PendingContents) (belongs : GoesOnWithPlan p m.source) (round : IsRoundUpTo p r.source.tick m.source.tick) (same_width : m.width ≡ r.width)
-        (pushed : m.held ≡ buffer (r.held.items ++ map (pending r.given) (rows_of_round p r.source.tick m.source.tick)) r.held.capacity) (one : m.computed ≡ r.computed + 1)
+        (pushed : m.held ≡ buffer (r.held.items ++ map (pending r.given) (rows_of_round p r.source.tick m.source.tick)) r.held.capacity)
+        (one : m.computed ≡ r.computed + 1)
         (counted : AreCounted r.given (rows_of_round p r.source.tick m.source.tick) m.given)
-        (noted : AreNoted (length r.given) (r.computed + 1) r.last (rows_of_round p r.source.tick m.source.tick) m.last) (below : r.computed < least_posted s + window) (fits : r.computed + 1 < 2 ^ 64) where
+        (noted : AreNoted (length r.given) (r.computed + 1) r.last (rows_of_round p r.source.tick m.source.tick) m.last) (below : r.computed < least_posted
+        s + window) (fits : r.computed + 1 < 2 ^ 64) where
       abbrev begin : ℕ
       begin = r.source.tick
 
@@ -390,7 +409,8 @@ module _ (p : PlanContents) (h : IsPlan p) where
       next_round = next_rounds p begin m.source.tick round
 
       are : AreRoundsOf p (all_computed p m)
-      are = AreRoundsOf-next p h (all_computed p r) (all_computed p m) k.kept.rounds belongs.core (goes_on p m.source belongs) round same_width (next_lanes p h begin m.source.tick round)
+      are = AreRoundsOf-next p h (all_computed p r) (all_computed p m) k.kept.rounds belongs.core (goes_on p m.source belongs) round same_width
+          (next_lanes p h begin m.source.tick round)
           (let low = early in let next = next_round in omega (arith, low, next))
 
       -- the new row of a lane
@@ -405,15 +425,19 @@ module _ (p : PlanContents) (h : IsPlan p) where
           }
 
       -- a row of an earlier round stays before the last one
-      last_more : (q j : ℕ) (leaf : Leaf) → j < r.computed → j < last_of r.last (length r.given) r.computed q leaf → j < last_of m.last (length m.given) m.computed q leaf
-      last_more q j (Task task) low before = subst (λ n. j < slice_index m.last (q * n + task.0)) (sym counted.many) (noted.least (q * length r.given + task.0) j (omega (arith, low)) before)
+      last_more : (q j : ℕ) (leaf : Leaf) → j < r.computed → j < last_of r.last (length r.given) r.computed q leaf → j < last_of m.last (length m.given)
+          m.computed q leaf
+      last_more q j (Task task) low before = subst (λ n. j < slice_index m.last (q * n + task.0)) (sym counted.many)
+          (noted.least (q * length r.given + task.0) j (omega (arith, low)) before)
       last_more q j (Wait task) low before = omega (arith, low, one)
       last_more q j (Idle number) low before = omega (arith, low, one)
       last_more q j Empty low before = omega (arith, low, one)
 
       -- a row of the new round is the last one
-      last_new : (q : ℕ) (row : Row) (leaf : Leaf) → slice_get more_rows q ≡ Some row → row.leaf ≡ leaf → r.computed < last_of m.last (length m.given) m.computed q leaf
-      last_new q row (Task task) at is = subst (λ n. r.computed < slice_index m.last (q * n + task.0)) (sym counted.many) (let up = noted.each q row task at is in omega (arith, up))
+      last_new : (q : ℕ) (row : Row) (leaf : Leaf) → slice_get more_rows q ≡ Some row → row.leaf ≡ leaf → r.computed < last_of m.last (length m.given)
+          m.computed q leaf
+      last_new q row (Task task) at is = subst (λ n. r.computed < slice_index m.last (q * n + task.0)) (sym counted.many) (let up = noted.each q row task at
+          is in omega (arith, up))
       last_new q row (Wait task) at is = omega (arith, one)
       last_new q row (Idle number) at is = omega (arith, one)
       last_new q row Empty at is = omega (arith, one)
@@ -424,11 +448,14 @@ module _ (p : PlanContents) (h : IsPlan p) where
         | inr past ↦ (
             let here : j ≡ r.computed = omega (arith, low, past, one) in
             let inside = lane_within all q j row at in
-            let (new, got) = slice_get-some more_rows q (let many = wide begin m.source.tick round in let lanes = plan_lanes p h in omega (arith, inside, many, lanes)) in
-            let there : RowAt all q j new = subst (λ n. RowAt all q n new) (sym (here ∙ k.computed)) (row_of_round begin m.source.tick round (all_computed p r) k.kept.rounds refl q new got) in
+            let (new, got) = slice_get-some more_rows q (let many = wide begin m.source.tick round in let lanes = plan_lanes p h in
+            omega (arith, inside, many, lanes)) in
+            let there : RowAt all q j new = subst (λ n. RowAt all q n new) (sym (here ∙ k.computed)) (row_of_round begin m.source.tick round
+            (all_computed p r) k.kept.rounds refl q new got) in
             let e : Some new ≡ Some row = sym there ∙ at in
             let same : new ≡ row = cc in
-            subst (λ n. n < last_of m.last (length m.given) m.computed q row.leaf) (sym here) (last_new q row row.leaf (subst (λ x. slice_get more_rows q ≡ Some x) same got) refl)
+            subst (λ n. n < last_of m.last (length m.given) m.computed q row.leaf) (sym here) (last_new q row row.leaf
+            (subst (λ x. slice_get more_rows q ≡ Some x) same got) refl)
             )
       ]
 
@@ -436,8 +463,10 @@ module _ (p : PlanContents) (h : IsPlan p) where
       PendingKept-more = record {
         kept = record {
           rounds = are;
-          posted = λ q. let old = k.kept.posted q in let count = are.count in let before = k.kept.rounds.count in let next = next_round in omega (arith, old, count, before, next);
-          out = λ q out. let old = k.kept.out q out in let count = are.count in let before = k.kept.rounds.count in let next = next_round in omega (arith, old, count, before, next);
+          posted = λ q. let old = k.kept.posted q in let count = are.count in let before = k.kept.rounds.count in let next = next_round in
+              omega (arith, old, count, before, next);
+          out = λ q out. let old = k.kept.out q out in let count = are.count in let before = k.kept.rounds.count in let next = next_round in
+              omega (arith, old, count, before, next);
           in_window = let count = are.count in let next = next_round in let is = k.computed in omega (arith, count, next, is, below);
         };
         source = belongs;
@@ -446,7 +475,8 @@ module _ (p : PlanContents) (h : IsPlan p) where
         rows =
             let up = least_computed window s r k in
             subst (λ (b : Buffer PendingRow). ArePending all processors (least_posted s) m.computed b.items) (sym pushed)
-            (ArePending-more all processors (least_posted s) r.computed r.held.items k.rows r.given more_rows (wide begin m.source.tick round) up new_pending m.computed one);
+            (ArePending-more all processors (least_posted s) r.computed r.held.items k.rows r.given more_rows (wide begin m.source.tick round) up
+            new_pending m.computed one);
         places = ap (λ (b : Buffer PendingRow). b.capacity) pushed ∙ k.places;
         tasks = counted.many ∙ k.tasks;
         given = λ t low.
@@ -476,10 +506,12 @@ module _ (p : PlanContents) (h : IsPlan p) where
         let many = k.rows.many in
         let places = k.places in
         let wide = k.kept.rounds.width in
-        let rounds : (r.computed - least_posted s) * processors + processors ≤ window * processors = room_left (r.computed - least_posted s) window processors (let up = least_computed window s r k in omega (arith, up, below)) in
+        let rounds : (r.computed - least_posted s) * processors + processors ≤ window * processors = room_left (r.computed - least_posted s) window
+        processors (let up = least_computed window s r k in omega (arith, up, below)) in
         omega (arith, many, places, wide, rounds)
 
-  module _ (window : ℕ) (s : State) (r : PendingContents) (k : PendingKept p window s r) (q : ℕ) (inside : q < processors) (below : posted_at s q < r.computed) where
+  module _ (window : ℕ) (s : State) (r : PendingContents) (k : PendingKept p window s r) (q : ℕ) (inside : q < processors)
+      (below : posted_at s q < r.computed) where
     -- its next row is held
     pub next_held : q < length s.lanes → (posted_at s q - least_posted s) * r.width + q < length r.held.items
     next_held within =
@@ -488,11 +520,13 @@ module _ (p : PlanContents) (h : IsPlan p) where
         subst (λ w. (posted_at s q - least_posted s) * w + q < length r.held.items) (sym wide)
         (is_held all processors (least_posted s) r.computed r.held.items k.rows (posted_at s q - least_posted s) q (omega (arith, low, below)) inside)
 
-    pub next_is : q < length s.lanes → (next : PendingRow) → slice_get r.held.items ((posted_at s q - least_posted s) * r.width + q) ≡ Some next → IsPending all q (posted_at s q) next
+    pub next_is : q < length s.lanes → (next : PendingRow) → slice_get r.held.items ((posted_at s q - least_posted s) * r.width + q) ≡ Some next →
+        IsPending all q (posted_at s q) next
     next_is within next at =
         let low = least_le s.lanes q within in
         let wide : r.width ≡ processors = k.kept.rounds.width in
-        let here : slice_get r.held.items ((posted_at s q - least_posted s) * processors + q) ≡ Some next = subst (λ w. slice_get r.held.items ((posted_at s q - least_posted s) * w + q) ≡ Some next) wide at in
+        let here : slice_get r.held.items ((posted_at s q - least_posted s) * processors + q) ≡ Some next = subst (λ w. slice_get r.held.items
+        ((posted_at s q - least_posted s) * w + q) ≡ Some next) wide at in
         subst (λ n. IsPending all q n next) (omega (arith, low)) (k.rows.each (posted_at s q - least_posted s) q next inside here)
 
   module _ (window : ℕ) (s : State) (r : PendingContents) (k : PendingKept p window s r) where
@@ -522,13 +556,15 @@ module _ (p : PlanContents) (h : IsPlan p) where
 
       -- the rows before round n are held
       pub rows_held : (i : ℕ) → i < n - least → i * r.width + q < length r.held.items
-      rows_held i low = subst (λ w. i * w + q < length r.held.items) (sym wide_held) (is_held all processors least r.computed r.held.items k.rows i q (omega (arith, low, most)) inside)
+      rows_held i low = subst (λ w. i * w + q < length r.held.items) (sym wide_held) (is_held all processors least r.computed r.held.items k.rows i q
+          (omega (arith, low, most)) inside)
 
       pending_at : (i : ℕ) (next : PendingRow) → slice_get r.held.items (i * r.width + q) ≡ Some next → IsPending all q (least + i) next
       pending_at i next at = k.rows.each i q next inside (subst (λ w. slice_get r.held.items (i * w + q) ≡ Some next) wide_held at)
 
       -- a pending row of the leaf before round n is unposted
-      pub row_of_pending : (i : ℕ) (next : PendingRow) → posted_at s q - least ≤ i → i < n - least → slice_get r.held.items (i * r.width + q) ≡ Some next → next.row.leaf ≡ leaf
+      pub row_of_pending : (i : ℕ) (next : PendingRow) → posted_at s q - least ≤ i → i < n - least → slice_get r.held.items (i * r.width + q) ≡ Some next →
+          next.row.leaf ≡ leaf
           → (j : ℕ) × (row : Row) × (posted_at s q ≤ j) × (j < n) × RowAt all q j row × (row.leaf ≡ leaf)
       row_of_pending i next past low at is = (least + i, next.row, omega (arith, past), omega (arith, low), (pending_at i next at).row, is)
 
@@ -536,10 +572,12 @@ module _ (p : PlanContents) (h : IsPlan p) where
       pub row_is_early : (i : ℕ) (next : PendingRow) → i < n - least → slice_get r.held.items (i * r.width + q) ≡ Some next → next.row.leaf ≡ leaf
           → least + i < last_of r.last (length r.given) r.computed q leaf
       row_is_early i next low at is =
-          subst (λ l. least + i < last_of r.last (length r.given) r.computed q l) is (k.last q (least + i) next.row (omega (arith, low, most)) (pending_at i next at).row)
+          subst (λ l. least + i < last_of r.last (length r.given) r.computed q l) is (k.last q (least + i) next.row (omega (arith, low, most))
+          (pending_at i next at).row)
 
       -- and where none is of the leaf, all its rows before round n are posted
-      pub none_unposted : ((i : ℕ) (next : PendingRow) → posted_at s q - least ≤ i → i < n - least → slice_get r.held.items (i * r.width + q) ≡ Some next → next.row.leaf ≢ leaf)
+      pub none_unposted : ((i : ℕ) (next : PendingRow) → posted_at s q - least ≤ i → i < n - least → slice_get r.held.items (i * r.width + q) ≡ Some next →
+          next.row.leaf ≢ leaf)
           → PostedBefore all s.lanes q n leaf
       none_unposted none j row early at is = elim (below_or j (posted_at s q)) [
         | inl posted ↦ posted

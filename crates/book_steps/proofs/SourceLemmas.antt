@@ -1,5 +1,6 @@
 -- What gives the next round, from one round to the next.
-use Rattle.std.proofs.Common.{◌≡◌, ◌≢◌, ◌⊎◌, inl, inr, ℕ, ◌+◌, ◌*◌, ◌<◌, ◌≤◌, ◌^◌, min, List, [], ◌∷◌, ◌++◌, Option, Some, None, length, get_or, refl, sym, true, ap, ◌∙◌, subst, add-one, arith, mul-le-mul_right}
+use Rattle.std.proofs.Common.{◌≡◌, ◌≢◌, ◌⊎◌, inl, inr, ℕ, ◌+◌, ◌*◌, ◌<◌, ◌≤◌, ◌^◌, min, List, [], ◌∷◌, ◌++◌, Option, Some, None, length, get_or, refl}
+use Rattle.std.proofs.Common.{sym, true, ap, ◌∙◌, subst, add-one, arith, mul-le-mul_right}
 use Rattle.std.specs.Prelude.{IfSome, slice_get, slice_index, slice_index_or}
 use Rattle.std.specs.List.{AllByRecursion}
 use Rattle.std.proofs.lemmas.Option.{slice_get-get_or}
@@ -33,7 +34,8 @@ use Rattle.book_steps.specs.Sources.{IsKeeping, IsRepeating, GoesOnWithPlan, IsS
 -- ---- what a stage says
 
 module _ (p : PlanContents) (core tick : ℕ) (ends : List ℕ) (shown : List (Option Leaf)) where
-  stage_on : (stage : Stage) → IsStage p core tick ends shown stage → IfSome (recurrence p stage) (λ again. IsRecurrence p again) × (HasComeRound (recurrence p stage) tick ⊎ (core ≡ tick))
+  stage_on : (stage : Stage) → IsStage p core tick ends shown stage → IfSome (recurrence p stage) (λ again. IsRecurrence p again)
+      × (HasComeRound (recurrence p stage) tick ⊎ (core ≡ tick))
   stage_on Computes is = (tt, inr is)
   stage_on (Begins ticks) is = (tt, inr is.0)
   stage_on (Keeps k) is = (tt, inr is.0)
@@ -60,7 +62,8 @@ module _ (p : PlanContents) (core tick : ℕ) (ends : List ℕ) (shown : List (O
   stage_stands (Keeps k) none is = is.0
   stage_stands (Repeats r) none is = absurd (none r refl)
 
-pub goes_on : (p : PlanContents) (s : SourceContents) → GoesOnWithPlan p s → IfSome (recurrence p s.stage) (λ again. IsRecurrence p again) × (HasComeRound (recurrence p s.stage) s.tick ⊎ (s.core.tick ≡ s.tick))
+pub goes_on : (p : PlanContents) (s : SourceContents) → GoesOnWithPlan p s → IfSome (recurrence p s.stage) (λ again. IsRecurrence p again)
+    × (HasComeRound (recurrence p s.stage) s.tick ⊎ (s.core.tick ≡ s.tick))
 goes_on p s is = stage_on p s.core.tick s.tick s.ends s.shown s.stage is.stage
 
 pub at_first : (p : PlanContents) (s : SourceContents) → GoesOnWithPlan p s → s.tick ≡ 0 → s.core.tick ≡ s.tick
@@ -79,7 +82,8 @@ abbrev placing : List (Option ℕ) → List (Option ℕ) → Placing
 placing onto last = record { onto = onto; last = last }
 
 -- with one processor and one pack the places are two numbers
-pub same_places : (p : PlanContents) (ticks : ℕ) → ComesRoundAfter p ticks → (m n : ℕ) → slice_index_or (places_of p m).onto 0 None ≡ slice_index_or (places_of p n).onto 0 None
+pub same_places : (p : PlanContents) (ticks : ℕ) → ComesRoundAfter p ticks → (m n : ℕ) → slice_index_or (places_of p m).onto 0 None ≡ slice_index_or
+    (places_of p n).onto 0 None
     → slice_index_or (places_of p m).last 0 None ≡ slice_index_or (places_of p n).last 0 None → places_of p m ≡ places_of p n
 same_places p ticks turn m n on was =
     let wide : (k : ℕ) → length (places_of p k).onto ≡ 1 = λ k. length-places (set_boundary p.set.tasks) p.tree k ∙ turn.alone in
@@ -90,7 +94,8 @@ same_places p ticks turn m n on was =
 
 -- ---- one round more that is kept
 
-module _ (p : PlanContents) (start end : ℕ) (ends : List ℕ) (shown : List (Option Leaf)) (k : Keeping) (is : IsKeeping p start ends shown k) (round : IsRoundUpTo p start end) where
+module _ (p : PlanContents) (start end : ℕ) (ends : List ℕ) (shown : List (Option Leaf)) (k : Keeping) (is : IsKeeping p start ends shown k)
+    (round : IsRoundUpTo p start end) where
   pub keeps_more : (leaf : Leaf) → leaf ≡ leaf_at p start end 0 no_row → IsKeeping p end (ends ++ end ∷ []) (shown ++ Some leaf ∷ []) k
   keeps_more leaf shows = record {
     turn = is.turn;
@@ -100,7 +105,8 @@ module _ (p : PlanContents) (start end : ℕ) (ends : List ℕ) (shown : List (O
       each = λ q none inside.
           let alone = is.turn.alone in
           let first : 0 ≡ q = omega (arith, inside, alone) in
-          subst (λ (i : ℕ). get_or (Some leaf ∷ []) i None ≡ Some (leaf_at p start end i none)) first (ap Some (shows ∙ leaf_default p start end 0 no_row none (omega (arith, alone))));
+          subst (λ (i : ℕ). get_or (Some leaf ∷ []) i None ≡ Some (leaf_at p start end i none)) first (ap Some (shows ∙ leaf_default p start end 0 no_row
+          none (omega (arith, alone))));
     });
     end = last_start k.from end ends;
     placed = is.placed;
@@ -142,7 +148,8 @@ released_at_once p n all = go p.set.tasks all
     go [] all = tt
     go (t ∷ ts) all = (let z = ap (λ o. o * p.tree.scale) all.0 in omega (arith, z), go ts all.1)
 
-module _ (p : PlanContents) (h : IsPlan p) (tick : ℕ) (ends : List ℕ) (shown : List (Option Leaf)) (r : Repeating) (is : IsRepeating p tick ends shown r) (early : tick < stop_of p) where
+module _ (p : PlanContents) (h : IsPlan p) (tick : ℕ) (ends : List ℕ) (shown : List (Option Leaf)) (r : Repeating) (is : IsRepeating p tick ends shown r)
+    (early : tick < stop_of p) where
   here : tick ≡ round_start r.from ends r.next + r.passed
   here = let e = is.here in omega (arith, e, early)
 
@@ -165,12 +172,14 @@ module _ (p : PlanContents) (h : IsPlan p) (tick : ℕ) (ends : List ℕ) (shown
       (event_later p h is.turn.can ticks again.turns r.from is.later low ∙ begins) low
 
   -- at the end of those that are kept the first one comes again
-  pub IsRepeating-wrapped : (length ends ≤ r.next) → IsRepeating p tick ends shown (record { from = r.from; ticks = r.ticks; passed = r.passed + r.ticks; next = 0 })
+  pub IsRepeating-wrapped : (length ends ≤ r.next) → IsRepeating p tick ends shown
+      (record { from = r.from; ticks = r.ticks; passed = r.passed + r.ticks; next = 0 })
   IsRepeating-wrapped over =
       let last : r.next ≡ length ends = let most = is.next in omega (arith, over, most) in
       let at : tick ≡ r.from + r.ticks + r.passed = here ∙ ap (λ i. round_start r.from ends i + r.passed) last ∙ ap (λ n. n + r.passed) is.end in
       let next : StandsLaterAgain p r.from (r.passed + r.ticks) =
-      next_lap p h r.from r.ticks r.passed (stands r.ticks is.again (omega (arith, at, early))) (stands r.passed is.shift (omega (arith, at, early))) (omega (arith, at, early)) in
+      next_lap p h r.from r.ticks r.passed (stands r.ticks is.again (omega (arith, at, early))) (stands r.passed is.shift (omega (arith, at, early)))
+      (omega (arith, at, early)) in
       record {
         turn = is.turn;
         later = is.later;
@@ -203,7 +212,8 @@ module _ (p : PlanContents) (h : IsPlan p) (tick : ℕ) (ends : List ℕ) (shown
 
     pub repeats_round : IsRoundUpTo p tick (min (slice_index ends r.next + r.passed) (stop_of p))
     repeats_round = subst (λ (n : ℕ). IsRoundUpTo p n (min (slice_index ends r.next + r.passed) (stop_of p))) (sym here)
-        (next_round p h is.turn.can r.from r.passed is.shift start (slice_index ends r.next) (let some = is.later in omega (arith, some, behind)) soon (is.lap.round r.next low))
+        (next_round p h is.turn.can r.from r.passed is.shift start (slice_index ends r.next) (let some = is.later in omega (arith, some, behind)) soon
+        (is.lap.round r.next low))
 
     -- its end fits
     pub end_fits : slice_index ends r.next + r.passed < 2 ^ 128
@@ -214,7 +224,8 @@ module _ (p : PlanContents) (h : IsPlan p) (tick : ℕ) (ends : List ℕ) (shown
     shown_low = below_as_many r.next (length ends) (length shown) low (is.lap.long ∙ ap (λ m. length ends * m) is.turn.alone)
 
     -- behind it comes the next one
-    pub IsRepeating-next : (end : ℕ) → end ≡ min (slice_index ends r.next + r.passed) (stop_of p) → IsRepeating p end ends shown (record r { next = r.next + 1 })
+    pub IsRepeating-next : (end : ℕ) → end ≡ min (slice_index ends r.next + r.passed) (stop_of p) → IsRepeating p end ends shown
+        (record r { next = r.next + 1 })
     IsRepeating-next end at = record {
       turn = is.turn;
       later = is.later;
@@ -237,7 +248,8 @@ module _ (p : PlanContents) (h : IsPlan p) (tick : ℕ) (ends : List ℕ) (shown
         ∙ ap Some (sym (leaf_later p h is.turn.can r.from r.passed is.shift start (slice_index ends r.next) end 0 no_row behind soon inside))
         ∙ ap (λ n. Some (leaf_at p n end 0 no_row)) (sym here)
 
-    pub repeats_rows : (rows : List Row) (leaf : Leaf) (end : ℕ) → length rows ≡ p.tree.processors → slice_get rows 0 ≡ Some (record { processor = 0; leaf = leaf; start = tick; end = end })
+    pub repeats_rows : (rows : List Row) (leaf : Leaf) (end : ℕ) → length rows ≡ p.tree.processors → slice_get rows 0 ≡ Some
+        (record { processor = 0; leaf = leaf; start = tick; end = end })
         → ((l : Leaf) → slice_index_or shown r.next None ≡ Some l → leaf ≡ l) → rows ≡ rows_of_round p tick end
     repeats_rows rows leaf end long at is_leaf =
         let alone = is.turn.alone in

@@ -1,5 +1,6 @@
 -- The ticks of a task's posted rows are those of its rows before a round only where all these are posted.
-use Rattle.std.proofs.Common.{◌≡◌, inl, inr, ℕ, zero, suc, ◌+◌, ◌-◌, ◌<◌, ◌≤◌, true, false, List, [], ◌∷◌, Option, None, Some, length, take, refl, sym, ap, ◌∙◌, subst, arith}
+use Rattle.std.proofs.Common.{◌≡◌, inl, inr, ℕ, zero, suc, ◌+◌, ◌-◌, ◌<◌, ◌≤◌, true, false, List, [], ◌∷◌, Option, None, Some, length, take, refl}
+use Rattle.std.proofs.Common.{sym, ap, ◌∙◌, subst, arith}
 use Rattle.std.specs.Prelude.{slice_get, slice_index}
 use Rattle.std.proofs.lemmas.Bool.{cases_Bool, cases_eq, cases_order, eq-eqb}
 use Rattle.std.proofs.lemmas.List.{length-map}
@@ -69,7 +70,8 @@ fewer t (s ∷ rows) zero (suc k) (suc j) r only at is forward past below =
 fewer t (s ∷ rows) (suc n) zero j r only at is forward past below = absurd (omega (arith, below))
 fewer t (s ∷ rows) (suc n) (suc k) zero r only at is forward past below = absurd (omega (arith, past))
 fewer t (s ∷ rows) (suc n) (suc k) (suc j) r only at is forward past below =
-    let rest = fewer t rows n k j r (λ i u there of low. let b = only (suc i) u there of (omega (arith, low)) in omega (arith, b)) at is forward (omega (arith, past)) (omega (arith, below)) in
+    let rest = fewer t rows n k j r (λ i u there of low. let b = only (suc i) u there of (omega (arith, low)) in omega (arith, b)) at is forward
+    (omega (arith, past)) (omega (arith, below)) in
     omega (arith, rest)
 
 -- ---- all lanes
@@ -100,7 +102,8 @@ one_fewer t (lane ∷ lanes) (n ∷ counts) k (suc q) j r many only at is forwar
     omega (arith, here, rest)
 
 -- a task whose posted rows have the ticks of its rows before round k has all these posted, where its row of round k is the next one of its processor
-pub earlier_by_ticks : (rows : List (List Row)) (window : ℕ) (s : State) → IsTable rows → IsReached rows window s → (p : ℕ) (r : Row) (task : TaskId) → RowAt rows p (posted_at s p) r → r.leaf ≡ Task task
+pub earlier_by_ticks : (rows : List (List Row)) (window : ℕ) (s : State) → IsTable rows → IsReached rows window s → (p : ℕ) (r : Row) (task : TaskId) →
+    RowAt rows p (posted_at s p) r → r.leaf ≡ Task task
     → ticks_of task.0 rows (counts_of s.lanes) ≡ ticks_before task.0 (posted_at s p) rows → EarlierPosted rows s.lanes p (posted_at s p) r.leaf
 earlier_by_ticks rows window s table h p r task at is same = λ q other j u early there leaf. elim (cases_order j (posted_at s q)) [
   | inl equal ↦ absurd (missing q j u early there leaf (omega (arith, equal)))
@@ -127,7 +130,8 @@ earlier_by_ticks rows window s table h p r task at is same = λ q other j u earl
             | inl equal ↦ absurd (other (table.once q p i v r task there (subst (λ n. RowAt rows p n r) (sym equal) at) (of_task v on) is))
             | inr rest ↦ elim rest [
               | inl less ↦ less
-              | inr later ↦ absurd (let first = h.posted_after_earlier q i v posted there p (λ e. other (sym e)) (posted_at s p) r later at (is ∙ sym (of_task v on)) in omega (arith, first))
+              | inr later ↦ absurd (let first = h.posted_after_earlier q i v posted there p (λ e. other (sym e)) (posted_at s p) r later at
+                  (is ∙ sym (of_task v on)) in omega (arith, first))
             ]
           ]
         ]
@@ -137,5 +141,6 @@ earlier_by_ticks rows window s table h p r task at is same = λ q other j u earl
         let count = counts_of-at s.lanes q in
         let named : is_of_task t u.leaf ≡ true = ap (is_of_task t) (leaf ∙ is) ∙ eq-eqb t t refl in
         let forward = (table.forward q j u there).0 in
-        let less = one_fewer t rows (counts_of s.lanes) (posted_at s p) q j u (length-map s.lanes (λ (l : LaneState). l.posted) ∙ h.lanes) only there named forward (omega (arith, past, count)) early in
+        let less = one_fewer t rows (counts_of s.lanes) (posted_at s p) q j u (length-map s.lanes (λ (l : LaneState). l.posted) ∙ h.lanes) only there named
+        forward (omega (arith, past, count)) early in
         omega (arith, less, same)

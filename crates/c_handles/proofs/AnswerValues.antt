@@ -43,4 +43,5 @@ module _ {M : Type 1} {𝓤 : Ura M} {𝓛 : Logic 𝓤} {K : Type 0} {Γ : List
       → Seq K 𝓛 (‵ (owned_answer p s) ∷ Γ) G
   opened t p None some k = absurd (some refl)
   opened t p (Some x) some k =
-      in_a_block t p (λ q. box_owns (ghosts.dealloc_token heap) the_row q x) (fst∗ 𝓤 (never 𝓤) (sem 𝓛 (ghosts.dealloc_token heap (bare (lone the_row.mir)) null_ptr))) (λ b o e. k b o x e refl)
+      in_a_block t p (λ q. box_owns (ghosts.dealloc_token heap) the_row q x) (fst∗ 𝓤 (never 𝓤) (sem 𝓛 (ghosts.dealloc_token heap (bare (lone the_row.mir))
+      null_ptr))) (λ b o e. k b o x e refl)

@@ -11,7 +11,8 @@ use Rattle.command_words.specs.declared.asking.Asked.{Asked}
 use Rattle.command_words.specs.declared.command.Command.{Command}
 use Rattle.command_words.specs.declared.command.Command.TheVariants.{Read, Batch, Execute}
 use Rattle.command_words.specs.declared.command.Reading.{Reading}
-use Rattle.command_words.specs.declared.command.Reading.TheVariants.{Rate, Tree, Trace, TraceMet, TraceWrap, TraceRepeat, Table, TableRepeat, Check, Follow, Draw}
+use Rattle.command_words.specs.declared.command.Reading.TheVariants.{Rate, Tree, Trace, TraceMet, TraceWrap, TraceRepeat, Table, TableRepeat, Check}
+use Rattle.command_words.specs.declared.command.Reading.TheVariants.{Follow, Draw}
 use Rattle.command_words.specs.declared.command.Execution.{Execution}
 use Rattle.command_words.specs.declared.command.Execution.TheVariants.{Exec, ExecMet, Drill, Jobs, Modes}
 use Rattle.sched_base.specs.Limits.{window_limit}
@@ -177,7 +178,8 @@ pub called_as : (c : Command) (name : Text) → name ≡ name_of c → IsCalled 
 called_as c name e = subst (λ (n : Text). IsCalled n c) (sym e) (called c)
 
 -- a word that names a command, and none of those with options or threads, is its whole line
-pub plainly_named : (c : Command) (name : Text) → name ≡ name_of c → name ≢ codes "trace" → name ≢ codes "table" → name ≢ codes "draw" → name ≢ codes "batch" → name ≢ codes "exec" → name ≢ codes "drill" → name ≢ codes "jobs" → name ≢ codes "modes"
+pub plainly_named : (c : Command) (name : Text) → name ≡ name_of c → name ≢ codes "trace" → name ≢ codes "table" → name ≢ codes "draw" →
+    name ≢ codes "batch" → name ≢ codes "exec" → name ≢ codes "drill" → name ≢ codes "jobs" → name ≢ codes "modes"
     → option_map Read (reading_named name) ≡ Some c
 plainly_named (Read Rate) name e trace table draw batch exec drill jobs modes = ap (λ n. option_map Read (reading_named n)) e
 plainly_named (Read Tree) name e trace table draw batch exec drill jobs modes = ap (λ n. option_map Read (reading_named n)) e
@@ -352,7 +354,8 @@ TellsOptions Trace rows =
     (one_of (codes "met") rows ≡ Some (codes "false")) × (one_of (codes "repeat") rows ≡ Some (codes "false")) × (first_of (codes "by") rows ≡ None)
 TellsOptions TraceMet rows = one_of (codes "met") rows ≡ Some (codes "true")
 TellsOptions TraceWrap rows =
-    (one_of (codes "met") rows ≡ Some (codes "false")) × (one_of (codes "repeat") rows ≡ Some (codes "false")) × (first_of (codes "by") rows ≡ Some (codes "wrap"))
+    (one_of (codes "met") rows ≡ Some (codes "false")) × (one_of (codes "repeat") rows ≡ Some (codes "false"))
+    × (first_of (codes "by") rows ≡ Some (codes "wrap"))
 TellsOptions TraceRepeat rows = (one_of (codes "met") rows ≡ Some (codes "false")) × (one_of (codes "repeat") rows ≡ Some (codes "true"))
 TellsOptions _ rows = ⊥
 
@@ -497,7 +500,8 @@ draw_used c words rows spells name is =
 
 -- what the matches of `drill` say of its number
 pub drill_used : (c : Command) (words : List Text) (rows : List Row) → Spells c words → IsCalled (codes "drill") c → Some rows ≡ matches_by words
-    → (value : Text) × (first_of (codes "number") rows ≡ Some value) × (option_map Execute (option_map (λ number. Drill number) (number_in 0 (2 ^ 64 - 1) value)) ≡ Some c)
+    → (value : Text) × (first_of (codes "number") rows ≡ Some value) × (option_map Execute (option_map (λ number. Drill number) (number_in 0 (2 ^ 64 - 1)
+    value)) ≡ Some c)
 drill_used c words rows spells name is =
     let (n, own) = name in
     let (value, writes, spelled) = subst (λ (x : Command). Spells x words) own spells in (

@@ -13,7 +13,8 @@ use Rattle.command_words.specs.Parts.{name_of, action_of, stands_in_place, rule_
 
 -- ---- options
 
-pub option_rule : (p : Part) → stands_in_place p ≡ false → record (new_rule (name_of p)) { action = Some (action_of p); long = Some (name_of p) } ≡ rule_of_part p
+pub option_rule : (p : Part) → stands_in_place p ≡ false → record (new_rule (name_of p)) { action = Some (action_of p); long = Some (name_of p) }
+    ≡ rule_of_part p
 option_rule Met e = refl
 option_rule By e = refl
 option_rule Repeat e = refl

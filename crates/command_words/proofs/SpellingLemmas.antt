@@ -9,12 +9,14 @@ use Rattle.clap.specs.Words.{Text}
 use Rattle.command_words.specs.declared.command.Command.{Command}
 use Rattle.command_words.specs.declared.command.Command.TheVariants.{Read, Batch, Execute}
 use Rattle.command_words.specs.declared.command.Reading.{Reading}
-use Rattle.command_words.specs.declared.command.Reading.TheVariants.{Rate, Tree, Trace, TraceMet, TraceWrap, TraceRepeat, Table, TableRepeat, Check, Follow, Draw}
+use Rattle.command_words.specs.declared.command.Reading.TheVariants.{Rate, Tree, Trace, TraceMet, TraceWrap, TraceRepeat, Table, TableRepeat, Check}
+use Rattle.command_words.specs.declared.command.Reading.TheVariants.{Follow, Draw}
 use Rattle.command_words.specs.declared.command.Execution.{Execution}
 use Rattle.command_words.specs.declared.command.Execution.TheVariants.{Exec, ExecMet, Drill, Jobs, Modes}
 use Rattle.sched_base.specs.Limits.{unit_limit, window_limit}
 use Rattle.command_words.specs.Words.{number_in, exec_with, exec_by, after_text, HasWindow}
-use Rattle.command_words.specs.Words.{reading_of, reading_by, reading_named, reading_with, reading_with_value, execution_of, execution_named, execution_with, execution_with_value}
+use Rattle.command_words.specs.Words.{reading_of, reading_by, reading_named, reading_with, reading_with_value, execution_of, execution_named}
+use Rattle.command_words.specs.Words.{execution_with, execution_with_value}
 use Rattle.command_words.specs.Words.{value_in, met_at, front, asked_units, drawn, draw_at_end, draw_of, DrawsSomeUnit}
 use Rattle.command_words.specs.Words.{asks_to_execute, asks_for_batch, asks_for_threads, command_of}
 use Rattle.command_words.specs.CommandLine.{Spells, SpellsExec, SpellsOption}
@@ -60,7 +62,8 @@ by_spelled w o x we e = elim (if_is (bytes_eq o (codes "--met")) _ _ _ e) [
       exec_spelled v x (w ∷ o ∷ []) given (inr (ap₂ (λ a b. a ∷ b ∷ []) we (after_is (codes "--window=") o v after)))
 ]
 
-drill_spelled : (w v : Text) (x : Execution) → w ≡ codes "drill" → option_map (λ number. Drill number) (number_in 0 (2 ^ 64 - 1) v) ≡ Some x → Spells (Execute x) (w ∷ v ∷ [])
+drill_spelled : (w v : Text) (x : Execution) → w ≡ codes "drill" → option_map (λ number. Drill number) (number_in 0 (2 ^ 64 - 1) v) ≡ Some x →
+    Spells (Execute x) (w ∷ v ∷ [])
 drill_spelled w v x we e =
     let (n, writes, same) = mapped (λ m. Drill m) (number_in 0 (2 ^ 64 - 1) v) x e in
     subst (λ (y : Execution). Spells (Execute y) (w ∷ v ∷ [])) same (v, writes, ap (λ a. a ∷ v ∷ []) we)

@@ -1,5 +1,6 @@
 -- Which command the words are, by what the first of them asks for.
-use Rattle.std.proofs.Common.{◌≡◌, ◌≢◌, ◌↔◌, ℕ, if◌then◌else◌, Bool, true, false, ◌||◌, ◌⊎◌, inl, inr, List, [], ◌∷◌, length, map, get_or, codes, Option, Some, None, refl, sym, ◌∙◌, ap, ap₂, arith, rules, tests}
+use Rattle.std.proofs.Common.{◌≡◌, ◌≢◌, ◌↔◌, ℕ, if◌then◌else◌, Bool, true, false, ◌||◌, ◌⊎◌, inl, inr, List, [], ◌∷◌, length, map, get_or, codes}
+use Rattle.std.proofs.Common.{Option, Some, None, refl, sym, ◌∙◌, ap, ap₂, arith, rules, tests}
 use Rattle.std.specs.Prelude.{option_map, option_and_then, slice_get, ◌==◌}
 use Rattle.std.specs.Str.{bytes_eq}
 use Rattle.command_words.specs.declared.command.Command.{Command}
@@ -105,11 +106,13 @@ pub no_first : {A : Type 0} (words : List A) → None ≡ slice_get words 0 → 
 no_first [] e = refl
 no_first (word ∷ words) e = absurd (no_some word e)
 
-pub batch_asked : {A : Type 0} (f : A → List ℕ) (words : List A) (word : A) → Some word ≡ slice_get words 0 → bytes_eq (f word) (codes "batch") ≡ asks_for_batch (map f words)
+pub batch_asked : {A : Type 0} (f : A → List ℕ) (words : List A) (word : A) → Some word ≡ slice_get words 0 →
+    bytes_eq (f word) (codes "batch") ≡ asks_for_batch (map f words)
 batch_asked f [] word e = absurd (no_some word (sym e))
 batch_asked f (first ∷ words) word e = ap (λ w. bytes_eq (f w) (codes "batch")) (some_is word first e)
 
-pub execution_asked : {A : Type 0} (f : A → List ℕ) (words : List A) (word : A) → Some word ≡ slice_get words 0 → asks_to_execute (f word ∷ []) ≡ asks_to_execute (map f words)
+pub execution_asked : {A : Type 0} (f : A → List ℕ) (words : List A) (word : A) → Some word ≡ slice_get words 0 →
+    asks_to_execute (f word ∷ []) ≡ asks_to_execute (map f words)
 execution_asked f [] word e = absurd (no_some word (sym e))
 execution_asked f (first ∷ words) word e = ap (λ w. asks_to_execute (f w ∷ [])) (some_is word first e)
 
@@ -117,7 +120,8 @@ execution_asked f (first ∷ words) word e = ap (λ w. asks_to_execute (f w ∷ 
 pub said_of_same : {A P : Type 0} (a b : Option A) (x : A) → a ≡ b → P ↔ (a ≡ Some x) → P ↔ (b ≡ Some x)
 said_of_same a b x e h = (λ p. sym e ∙ h.0 p, λ is. h.1 (e ∙ is))
 
-pub reading_by_none : {A : Type 0} (f : A → List ℕ) (word : List ℕ) (options : List A) → length options ≡ 0 → reading_named word ≡ reading_by word (map f options)
+pub reading_by_none : {A : Type 0} (f : A → List ℕ) (word : List ℕ) (options : List A) → length options ≡ 0 → reading_named word ≡ reading_by word
+    (map f options)
 reading_by_none f word [] e = refl
 reading_by_none f word (o ∷ os) e = absurd (omega (arith, e))
 
@@ -127,7 +131,8 @@ reading_by_one f word text [] option e at is = absurd (omega (arith, e))
 reading_by_one f word text (o ∷ []) option e at is = ap (reading_with word) (is ∙ ap f at)
 reading_by_one f word text (o ∷ v ∷ os) option e at is = absurd (omega (arith, e))
 
-pub reading_by_two : {A : Type 0} (f : A → List ℕ) (word text more : List ℕ) (options : List A) (option value : A) → length options ≡ 2 → option ≡ get_or options 0 option
+pub reading_by_two : {A : Type 0} (f : A → List ℕ) (word text more : List ℕ) (options : List A) (option value : A) → length options ≡ 2 →
+    option ≡ get_or options 0 option
     → value ≡ get_or options 1 value → text ≡ f option → more ≡ f value → reading_with_value word text more ≡ reading_by word (map f options)
 reading_by_two f word text more [] option value e at next is given = absurd (omega (arith, e))
 reading_by_two f word text more (o ∷ []) option value e at next is given = absurd (omega (arith, e))

@@ -1,5 +1,6 @@
 -- Which processors hold another pack than before.
-use Rattle.std.proofs.Common.{◌≡◌, ◌≢◌, ℕ, zero, suc, ◌+◌, ◌<◌, ◌≤◌, ◌&&◌, ◌||◌, not, Bool, true, false, List, [], ◌∷◌, map, find, length, get_or, Option, Some, None, refl, ap, arith, inl, inr, sym, ◌∙◌}
+use Rattle.std.proofs.Common.{◌≡◌, ◌≢◌, ℕ, zero, suc, ◌+◌, ◌<◌, ◌≤◌, ◌&&◌, ◌||◌, not, Bool, true, false, List, [], ◌∷◌, map, find, length, get_or}
+use Rattle.std.proofs.Common.{Option, Some, None, refl, ap, arith, inl, inr, sym, ◌∙◌}
 use Rattle.std.specs.List.{range_with_len, list_any}
 use Rattle.std.specs.Option.{option_or}
 use Rattle.std.proofs.lemmas.Bool.{cases_Bool, and_from}
@@ -39,7 +40,8 @@ holder_none (o ∷ os) p i before e = elim (cases_Bool (is_at o i)) [
   | inl on ↦ absurd (let b = bit_at (is_at o i) on in omega (arith, b, e))
   | inr off ↦
       (let b = bit_off (is_at o i) off in
-      ap (λ (c : Bool). elim c as (λ y. Option ℕ) [ true ↦ Some p | false ↦ holder_from (suc p) os i before ]) off ∙ holder_none os (suc p) i before (omega (arith, b, e)))
+      ap (λ (c : Bool). elim c as (λ y. Option ℕ) [ true ↦ Some p | false ↦ holder_from (suc p) os i before ]) off ∙ holder_none os (suc p) i before
+      (omega (arith, b, e)))
 ]
 
 -- a pack that is held is on some processor
@@ -59,7 +61,8 @@ module _ (runs : List Bool) (places : Placing) (h : IsNoted places.onto places.l
       let same = length-map places.onto (kept runs) in
       let k : get_or stay q None ≡ Some i = get_or-map (kept runs) places.onto q None None l ∙ ap (kept runs) at ∙ kept_on runs i on in
       let back : get_or (returned runs places.last stay 0 stay) q None ≡ Some i =
-      returned_at runs places.last stay 0 stay q (omega (arith, l, same)) ∙ ap (λ o. option_or o (find (comes_back runs places.last stay (0 + q)) (range_with_len 0 (length runs)))) k in
+      returned_at runs places.last stay 0 stay q (omega (arith, l, same)) ∙ ap (λ o. option_or o (find (comes_back runs places.last stay (0 + q))
+      (range_with_len 0 (length runs)))) k in
       ap (λ os. get_or os q None) (sym (steps_are_next runs places)) ∙ filled_keeps _ _ q i back
 
   at_most : (i : ℕ) → held (onto_next runs places) i ≤ bit (is_running runs i)
@@ -69,7 +72,8 @@ module _ (runs : List Bool) (places : Placing) (h : IsNoted places.onto places.l
   on_runs : (q i : ℕ) → get_or (onto_next runs places) q None ≡ Some i → is_running runs i ≡ true
   on_runs q i at = elim (cases_Bool (is_running runs i)) [
     | inl on ↦ on
-    | inr off ↦ absurd (let z = bit_off (is_running runs i) off in let most = at_most i in let some = held_at (onto_next runs places) q i (holds_within (onto_next runs places) q i at) at in omega (arith, z, most, some))
+    | inr off ↦ absurd (let z = bit_off (is_running runs i) off in let most = at_most i in let some = held_at (onto_next runs places) q i
+        (holds_within (onto_next runs places) q i at) at in omega (arith, z, most, some))
   ]
 
   -- one that stopped held the processor last where it was
@@ -79,7 +83,8 @@ module _ (runs : List Bool) (places : Placing) (h : IsNoted places.onto places.l
       let b = n.0 in
       let z = bit_off (is_running runs i) off in
       let most = at_most i in
-      get_or-map-range_with_len (λ j. holder_from 0 (onto_next runs places) j (get_or places.last j None)) 0 (length runs) i i None (omega (arith, b, long)) (omega arith)
+      get_or-map-range_with_len (λ j. holder_from 0 (onto_next runs places) j (get_or places.last j None)) 0 (length runs) i i None (omega (arith, b, long))
+      (omega arith)
       ∙ holder_none (onto_next runs places) 0 i (get_or places.last i None) (omega (arith, z, most)) ∙ n.1
 
   same_some : (a b : ℕ) → Some a ≡ Some b → a ≡ b
@@ -111,12 +116,14 @@ module _ (runs : List Bool) (places : Placing) (h : IsNoted places.onto places.l
         ap (λ x. get_or places.onto x None) same ∙ w.1)
     | inr off ↦ absurd (
         let on = on_runs q i at in
-        let w = passing_index (λ j. is_running runs j && not (is_held places.onto j)) (length runs) 0 i (omega arith) (let l = runs_within runs i on in omega (arith, l)) (and_from (is_running runs i) (not (is_held places.onto i)) on (ap not off)) in
+        let w = passing_index (λ j. is_running runs j && not (is_held places.onto j)) (length runs) 0 i (omega arith) (let l = runs_within runs i on in
+        omega (arith, l)) (and_from (is_running runs i) (not (is_held places.onto i)) on (ap not off)) in
         not_begun w.0 w.1 w.2)
   ]
 
   -- A processor holds what it held before, unless a pack that stopped or began holds it, or held it last.
-  pub moved : (q : ℕ) → ((k : ℕ) → k < length (stopping runs places.onto) → get_or (place runs places).last (get_or (stopping runs places.onto) k 0) None ≢ Some q) →
+  pub moved : (q : ℕ) → ((k : ℕ) → k < length (stopping runs places.onto) → get_or (place runs places).last (get_or (stopping runs places.onto) k 0) None ≢
+      Some q) →
       ((k : ℕ) → k < length (waiting runs places.onto) → get_or (place runs places).last (get_or (waiting runs places.onto) k 0) None ≢ Some q) →
       get_or (place runs places).onto q None ≡ get_or places.onto q None
   moved q not_stopped not_begun = go (get_or places.onto q None) refl
@@ -126,7 +133,8 @@ module _ (runs : List Bool) (places : Placing) (h : IsNoted places.onto places.l
       fill (Some j) e at = absurd (
           let on = on_runs q j e in
           let off = came q j at e in
-          let w = passing_index (λ i. is_running runs i && not (is_held places.onto i)) (length runs) 0 j (omega arith) (let l = runs_within runs j on in omega (arith, l)) (and_from (is_running runs j) (not (is_held places.onto j)) on (ap not off)) in
+          let w = passing_index (λ i. is_running runs i && not (is_held places.onto i)) (length runs) 0 j (omega arith) (let l = runs_within runs j on in
+          omega (arith, l)) (and_from (is_running runs j) (not (is_held places.onto j)) on (ap not off)) in
           not_begun w.0 w.1 (ap (λ x. get_or (place runs places).last x None) w.2 ∙ ((noted_next runs places h long).noted q j e).1))
 
       go : (o : Option ℕ) → get_or places.onto q None ≡ o → get_or (place runs places).onto q None ≡ get_or places.onto q None

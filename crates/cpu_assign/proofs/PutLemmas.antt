@@ -1,5 +1,6 @@
 -- A pack that is put on a free processor, and noted there.
-use Rattle.std.proofs.Common.{◌≡◌, ◌⊎◌, ℕ, zero, suc, ◌+◌, ◌<◌, ◌≤◌, ◌||◌, ◌&&◌, not, Bool, true, false, List, [], ◌∷◌, filter, find, length, get_or, Option, Some, None, refl, ap, arith, inl, inr, sym, subst, ◌∙◌}
+use Rattle.std.proofs.Common.{◌≡◌, ◌⊎◌, ℕ, zero, suc, ◌+◌, ◌<◌, ◌≤◌, ◌||◌, ◌&&◌, not, Bool, true, false, List, [], ◌∷◌, filter, find, length, get_or}
+use Rattle.std.proofs.Common.{Option, Some, None, refl, ap, arith, inl, inr, sym, subst, ◌∙◌}
 use Rattle.std.specs.List.{range_with_len}
 use Rattle.std.specs.Option.{option_or}
 use Rattle.std.proofs.lemmas.Bool.{cases_Bool, cases_eq, cases_lt, both_ways, ne_eqb}
@@ -14,7 +15,8 @@ use Rattle.cpu_assign.proofs.BackLemmas.{returned_at}
 use Rattle.cpu_assign.proofs.HolderLemmas.{some_is_at, holds_within}
 
 -- a processor holds what it did, or it was free and holds the pack
-put_where : (i : ℕ) (onto : List (Option ℕ)) (p : ℕ) → (get_or (put_first i onto) p None ≡ get_or onto p None) ⊎ ((get_or onto p None ≡ None) × (get_or (put_first i onto) p None ≡ Some i))
+put_where : (i : ℕ) (onto : List (Option ℕ)) (p : ℕ) → (get_or (put_first i onto) p None ≡ get_or onto p None) ⊎ ((get_or onto p None ≡ None)
+    × (get_or (put_first i onto) p None ≡ Some i))
 put_where i [] p = inl refl
 put_where i (None ∷ onto) zero = inr (refl, refl)
 put_where i (None ∷ onto) (suc p) = inl refl
@@ -33,12 +35,16 @@ is_held_at onto p i at = list_any_at (λ o. is_at o i) onto p None (holds_within
 
 -- nothing is noted anew, or the pack where it was put
 abbrev pub IsPutNoted : List (Option ℕ) → List (Option ℕ) → List (Option ℕ) → Bool → ℕ → ℕ → Type 0
-IsPutNoted onto' last last' put next i = (last' ≡ last) ⊎ ((put ≡ true) × ((p : ℕ) × (p + 1 ≡ next) × (get_or onto' p None ≡ Some i) × (last' ≡ set last i (Some p))))
+IsPutNoted onto' last last' put next i = (last' ≡ last) ⊎ ((put ≡ true) × ((p : ℕ) × (p + 1 ≡ next) × (get_or onto' p None ≡ Some i)
+    × (last' ≡ set last i (Some p))))
 
-module _ (onto last onto' last' : List (Option ℕ)) (i next : ℕ) (put : Bool) (noted : IsNoted onto last) (pack : i < length last) (free : put ≡ true → is_held onto i ≡ false)
+module _ (onto last onto' last' : List (Option ℕ)) (i next : ℕ) (put : Bool) (noted : IsNoted onto last) (pack : i < length last) (free : put ≡ true →
+    is_held onto i ≡ false)
     (puts : put ≡ true → onto' ≡ put_first i onto) (skips : put ≡ false → onto' ≡ onto) (long : length onto' ≡ length onto) (long' : length last' ≡ length last)
-    (below : (p : ℕ) → p + 1 < next → get_or onto' p None ≡ get_or onto p None) (above : (p : ℕ) → next ≤ p → get_or onto' p None ≡ get_or onto p None) (within : next ≤ length onto')
-    (there : (p : ℕ) → put ≡ true → p + 1 ≡ next → get_or onto' p None ≡ Some i → last' ≡ set last i (Some p)) (same : IsPutNoted onto' last last' put next i) where
+    (below : (p : ℕ) → p + 1 < next → get_or onto' p None ≡ get_or onto p None) (above : (p : ℕ) → next ≤ p → get_or onto' p None ≡ get_or onto p None)
+    (within : next ≤ length onto')
+    (there : (p : ℕ) → put ≡ true → p + 1 ≡ next → get_or onto' p None ≡ Some i → last' ≡ set last i (Some p)) (same : IsPutNoted onto' last last' put next
+    i) where
   -- each other pack has noted what it did
   pub put_note_others : (j : ℕ) → (j ≡ i → ⊥) → get_or last' j None ≡ get_or last j None
   put_note_others j ne = elim same [
@@ -63,7 +69,8 @@ module _ (onto last onto' last' : List (Option ℕ)) (i next : ℕ) (put : Bool)
         ]),
       )
 
-  comes : (p j : ℕ) → put ≡ true → get_or onto p None ≡ None → get_or (put_first i onto) p None ≡ Some i → get_or onto' p None ≡ Some j → (j < length last') × (get_or last' j None ≡ Some p)
+  comes : (p j : ℕ) → put ≡ true → get_or onto p None ≡ None → get_or (put_first i onto) p None ≡ Some i → get_or onto' p None ≡ Some j → (j < length last')
+      × (get_or last' j None ≡ Some p)
   comes p j on none some e =
       let here : get_or onto' p None ≡ Some i = ap (λ (os : List (Option ℕ)). get_or os p None) (puts on) ∙ some in
       let is : j ≡ i = (let both : Some j ≡ Some i = sym e ∙ here in cc) in
@@ -76,7 +83,8 @@ module _ (onto last onto' last' : List (Option ℕ)) (i next : ℕ) (put : Bool)
         ]
       ] in (
         omega (arith, is, pack, long'),
-        ap (λ (x : ℕ). get_or last' x None) is ∙ ap (λ (ls : List (Option ℕ)). get_or ls i None) (there p on at here) ∙ get_or-set_same last i (Some p) None pack,
+        ap (λ (x : ℕ). get_or last' x None) is ∙ ap (λ (ls : List (Option ℕ)). get_or ls i None) (there p on at here) ∙ get_or-set_same last i (Some p) None
+            pack,
       )
 
   pub put_note_noted : IsNoted onto' last'
@@ -91,7 +99,8 @@ module _ (onto last onto' last' : List (Option ℕ)) (i next : ℕ) (put : Bool)
     within = λ j p e. elim same [
       | inl e' ↦ (let w = noted.within j p (sym (ap (λ (ls : List (Option ℕ)). get_or ls j None) e') ∙ e) in omega (arith, w, long))
       | inr s ↦ elim (cases_eq j i) [
-        | inl is ↦ (let both : Some s.1.0 ≡ Some p = sym (ap (λ (x : ℕ). get_or last' x None) is ∙ ap (λ (ls : List (Option ℕ)). get_or ls i None) s.1.3 ∙ get_or-set_same last i (Some s.1.0) None pack) ∙ e in
+        | inl is ↦ (let both : Some s.1.0 ≡ Some p = sym (ap (λ (x : ℕ). get_or last' x None) is ∙ ap (λ (ls : List (Option ℕ)). get_or ls i None) s.1.3
+            ∙ get_or-set_same last i (Some s.1.0) None pack) ∙ e in
             let at : s.1.0 ≡ p = cc in
             let n = s.1.1 in omega (arith, at, n, within))
         | inr ne ↦ (let w = noted.within j p (sym (put_note_others j ne) ∙ e) in omega (arith, w, long))
@@ -104,8 +113,10 @@ module _ (onto last onto' last' : List (Option ℕ)) (i next : ℕ) (put : Bool)
 -- ---- no processor before a number is free
 
 -- once a pack has left the processor that it held last
-pub held_left : (before last onto onto' : List (Option ℕ)) (first next i : ℕ) → IsNoted before last → ((p j : ℕ) → get_or onto p None ≡ Some j → get_or before p None ≡ Some j) → AreHeld onto first →
-    ((p j : ℕ) → get_or onto p None ≡ Some j → (j ≡ i → ⊥) → get_or onto' p None ≡ Some j) → next ≤ first → ((p : ℕ) → get_or last i None ≡ Some p → next ≤ p) → AreHeld onto' next
+pub held_left : (before last onto onto' : List (Option ℕ)) (first next i : ℕ) → IsNoted before last → ((p j : ℕ) → get_or onto p None ≡ Some j →
+    get_or before p None ≡ Some j) → AreHeld onto first →
+    ((p j : ℕ) → get_or onto p None ≡ Some j → (j ≡ i → ⊥) → get_or onto' p None ≡ Some j) → next ≤ first → ((p : ℕ) → get_or last i None ≡ Some p →
+    next ≤ p) → AreHeld onto' next
 held_left before last onto onto' first next i noted was held others below here p l none = go (get_or onto p None) refl
   where
     go : (o : Option ℕ) → get_or onto p None ≡ o → ⊥
@@ -119,7 +130,8 @@ held_left before last onto onto' first next i noted was held others below here p
     ]
 
 -- once packs have come back
-pub held_back : (runs : List Bool) (last onto back : List (Option ℕ)) (n : ℕ) → back ≡ returned runs last onto 0 onto → AreHeld onto n → n ≤ length onto → AreHeld back n
+pub held_back : (runs : List Bool) (last onto back : List (Option ℕ)) (n : ℕ) → back ≡ returned runs last onto 0 onto → AreHeld onto n → n ≤ length onto →
+    AreHeld back n
 held_back runs last onto back n is held within p l none = go (get_or onto p None) refl
   where
     go : (o : Option ℕ) → get_or onto p None ≡ o → ⊥
@@ -147,22 +159,26 @@ from_on p (suc n) a k l =
       | inr off ↦ subst P (sym (passing_off p a n off)) (λ b. let low = from_on p n (a + 1) k b in omega (arith, low)) l
     ]
 
-ascend_on : (xs : List ℕ) (a j k : ℕ) → ((i : ℕ) → i < length xs → a + 1 ≤ get_or xs i 0) → ((i m : ℕ) → i < m → m < length xs → get_or xs i 0 < get_or xs m 0) → j < k → k < length (a ∷ xs) → get_or (a ∷ xs) j 0 < get_or (a ∷ xs) k 0
+ascend_on : (xs : List ℕ) (a j k : ℕ) → ((i : ℕ) → i < length xs → a + 1 ≤ get_or xs i 0) → ((i m : ℕ) → i < m → m < length xs → get_or xs i 0 < get_or xs m
+    0) → j < k → k < length (a ∷ xs) → get_or (a ∷ xs) j 0 < get_or (a ∷ xs) k 0
 ascend_on xs a j zero h g o b = absurd (omega (arith, o))
 ascend_on xs a zero (suc k) h g o b = let low = h k (omega (arith, b)) in omega (arith, low)
 ascend_on xs a (suc j) (suc k) h g o b = g j k (omega (arith, o)) (omega (arith, b))
 
-passing_ascend : (p : ℕ → Bool) (n a j k : ℕ) → j < k → k < length (filter p (range_with_len a n)) → get_or (filter p (range_with_len a n)) j 0 < get_or (filter p (range_with_len a n)) k 0
+passing_ascend : (p : ℕ → Bool) (n a j k : ℕ) → j < k → k < length (filter p (range_with_len a n)) → get_or (filter p (range_with_len a n)) j 0 < get_or
+    (filter p (range_with_len a n)) k 0
 passing_ascend p zero a j k o l = absurd (omega (arith, l))
 passing_ascend p (suc n) a j k o l =
     let P : List ℕ → Type 0 = λ xs. k < length xs → get_or xs j 0 < get_or xs k 0 in
     elim (cases_Bool (p a)) [
-      | inl on ↦ subst P (sym (passing_on p a n on)) (ascend_on (filter p (range_with_len (a + 1) n)) a j k (λ i b. from_on p n (a + 1) i b) (λ i m x b. passing_ascend p n (a + 1) i m x b) o) l
+      | inl on ↦ subst P (sym (passing_on p a n on)) (ascend_on (filter p (range_with_len (a + 1) n)) a j k (λ i b. from_on p n (a + 1) i b)
+          (λ i m x b. passing_ascend p n (a + 1) i m x b) o) l
       | inr off ↦ subst P (sym (passing_off p a n off)) (λ b. passing_ascend p n (a + 1) j k o b) l
     ]
 
 -- no pack begins twice
-pub begins_once : (runs : List Bool) (onto : List (Option ℕ)) (begun : List ℕ) (j k : ℕ) → begun ≡ waiting runs onto → j < k → k < length begun → get_or begun j 0 ≡ get_or begun k 0 → ⊥
+pub begins_once : (runs : List Bool) (onto : List (Option ℕ)) (begun : List ℕ) (j k : ℕ) → begun ≡ waiting runs onto → j < k → k < length begun →
+    get_or begun j 0 ≡ get_or begun k 0 → ⊥
 begins_once runs onto begun j k e o l same =
     let P : List ℕ → Type 0 = λ xs. k < length xs → get_or xs j 0 < get_or xs k 0 in
     let low = subst P (sym e) (λ b. passing_ascend (λ i. is_running runs i && not (is_held onto i)) (length runs) 0 j k o b) l in

@@ -35,7 +35,8 @@ module _ (cs : List Candidate) (ends : List ℕ) (h : AreReady cs ends) (first :
         let at = some_end j l some in
         let near = h.near j l in
         let long = h.long in
-        elim (f.first j (omega (arith, l, long))) [ inl less ↦ omega (arith, less, far, at, near) | inr same ↦ (let e = same.0 in omega (arith, e, far, at, near)) ])
+        elim (f.first j (omega (arith, l, long)))
+        [ inl less ↦ omega (arith, less, far, at, near) | inr same ↦ (let e = same.0 in omega (arith, e, far, at, near)) ])
   ])
 
   -- else it is that of the earliest
@@ -48,7 +49,8 @@ module _ (cs : List Candidate) (ends : List ℕ) (h : AreReady cs ends) (first :
         let at = some_end j l left in
         let own = some_end first.index below some in
         let here = f.here in
-        elim (f.first j (omega (arith, l, long))) [ inl less ↦ inl (omega (arith, less, at, own, here)) | inr same ↦ (let e = same.0 in inr (omega (arith, e, at, own, here), same.1)) ]);
+        elim (f.first j (omega (arith, l, long)))
+        [ inl less ↦ inl (omega (arith, less, at, own, here)) | inr same ↦ (let e = same.0 in inr (omega (arith, e, at, own, here), same.1)) ]);
   })
     where
       below : first.index < length cs

@@ -1,5 +1,6 @@
 -- The first tick at which a member that runs has nothing left.
-use Rattle.std.proofs.Common.{◌≡◌, ℕ, ◌+◌, ◌-◌, ◌<◌, ◌≤◌, true, false, List, length, get_or, Option, Some, None, refl, ap, arith, inl, inr, sym, subst, ◌∙◌, eq-eqb}
+use Rattle.std.proofs.Common.{◌≡◌, ℕ, ◌+◌, ◌-◌, ◌<◌, ◌≤◌, true, false, List, length, get_or, Option, Some, None, refl, ap, arith, inl, inr, sym}
+use Rattle.std.proofs.Common.{subst, ◌∙◌, eq-eqb}
 use Rattle.std.proofs.lemmas.Bool.{cases_Bool, both_ways, eqb-true}
 use Rattle.sched_base.specs.Candidates.{is_at}
 use Rattle.run_tree.specs.Tree.{Tree, IsTree, IsPack, IsMember, kind_at, is_pack, home, place, member}
@@ -56,7 +57,8 @@ module _ (t : Tree) (h : IsTree t) (d : DueContents) (ends : List ℕ) (s : Serv
       let l = v.within p k i e in
       ((h.members_are p k i l).0, v.at p k i l ∙ ap (λ o. is_at o k) e ∙ eq-eqb k k refl)
 
-  pub is_shortest : (most end : ℕ) → d.tick ≤ most → most < no_tick → IsSoonest t s.dry most end → IsShortest t s.runs d.remains (most - d.tick) (length t.nodes) (end - d.tick)
+  pub is_shortest : (most end : ℕ) → d.tick ≤ most → most < no_tick → IsSoonest t s.dry most end → IsShortest t s.runs d.remains (most - d.tick)
+      (length t.nodes) (end - d.tick)
   is_shortest most end early fits e = record {
     below = (let b = e.below in omega (arith, b));
     all = λ x l i on. (let at = h.homes_are x i in let b = e.all (home t x) at.0 in let dry = dry_of_member x i on in omega (arith, b, dry));
@@ -66,7 +68,8 @@ module _ (t : Tree) (h : IsTree t) (d : DueContents) (ends : List ℕ) (s : Serv
     ];
   }
     where
-      of_pack : (p : ℕ) → IsPack t p → end ≡ get_or s.dry p 0 → (o : Option ℕ) → get_or s.serves p None ≡ o → (x : ℕ) × IsMember t x × (get_or s.runs x false ≡ true) × (end - d.tick ≡ get_or d.remains x 0)
+      of_pack : (p : ℕ) → IsPack t p → end ≡ get_or s.dry p 0 → (o : Option ℕ) → get_or s.serves p None ≡ o → (x : ℕ) × IsMember t x
+          × (get_or s.runs x false ≡ true) × (end - d.tick ≡ get_or d.remains x 0)
       of_pack p i at None none = absurd (let far = dry_known p i ∙ ap (dry_by t d p) none in let b = e.below in omega (arith, far, at, b, fits))
       of_pack p i at (Some k) some =
           let run = served_runs p k i some in

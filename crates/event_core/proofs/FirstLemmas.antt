@@ -1,5 +1,6 @@
 -- What is kept of packs at tick 0.
-use Rattle.std.proofs.Common.{◌≡◌, ℕ, ◌+◌, ◌-◌, ◌<◌, not, Bool, true, false, List, [], length, replicate, get_or, Option, Some, None, refl, ap, arith, inl, inr, sym, subst, subst₂, zero-add, ◌∙◌}
+use Rattle.std.proofs.Common.{◌≡◌, ℕ, ◌+◌, ◌-◌, ◌<◌, not, Bool, true, false, List, [], length, replicate, get_or, Option, Some, None, refl, ap, arith}
+use Rattle.std.proofs.Common.{inl, inr, sym, subst, subst₂, zero-add, ◌∙◌}
 use Rattle.std.specs.List.{range_with_len}
 use Rattle.std.proofs.lemmas.Bool.{cases_Bool, cases_lt, both_ways, not-true}
 use Rattle.std.proofs.lemmas.List.{length-replicate, get_or-replicate, get_or_past}
@@ -22,7 +23,8 @@ use Rattle.event_core.proofs.DryLemmas.{candidate_is, candidates_long}
 use Rattle.event_core.proofs.TurnedLemmas.{turned_serving, end_near, due_some}
 
 -- the place of the last member tells how many there are
-pub last_place : (p : PlanContents) → IsPlan p → (q : ℕ) → IsPack p.tree q → (0 < length (members p.tree q)) × IsMember p.tree (member p.tree q (length (members p.tree q) - 1)) × (place p.tree (member p.tree q (length (members p.tree q) - 1)) + 1 ≡ length (members p.tree q))
+pub last_place : (p : PlanContents) → IsPlan p → (q : ℕ) → IsPack p.tree q → (0 < length (members p.tree q)) × IsMember p.tree
+    (member p.tree q (length (members p.tree q) - 1)) × (place p.tree (member p.tree q (length (members p.tree q) - 1)) + 1 ≡ length (members p.tree q))
 last_place p h q i =
     let some = h.tree.tree.filled q i in
     let its = h.tree.tree.members_are q (length (members p.tree q) - 1) i (omega (arith, some)) in
@@ -37,23 +39,32 @@ pub member_is : (t : Tree) (x : ℕ) → x < length t.nodes → not (is_pack (ki
 member_is t x l e = (l, not-true (is_pack (kind_at t x)) e)
 
 -- one node more, whose first window begins where it is a leaf or a dual
-pub begun_next : (t : Tree) → IsTree t → (begins ends remains : List ℕ) (ready : List (List ℕ)) (stale : List Bool) (remains' : List ℕ) (ready' : List (List ℕ)) (stale' : List Bool) (remains'' : List ℕ) (ready'' : List (List ℕ)) (stale'' : List Bool) (x : ℕ) →
+pub begun_next : (t : Tree) → IsTree t → (begins ends remains : List ℕ) (ready : List (List ℕ)) (stale : List Bool) (remains' : List ℕ)
+    (ready' : List (List ℕ)) (stale' : List Bool) (remains'' : List ℕ) (ready'' : List (List ℕ)) (stale'' : List Bool) (x : ℕ) →
     x < length t.nodes → length remains' ≡ length t.nodes → length ready' ≡ length t.nodes → length stale' ≡ length t.nodes →
     ((y : ℕ) → IsMember t y → place t y < length (get_or ready (home t y) [])) →
     (is_pack (kind_at t x) ≡ false → remains'' ≡ set remains' x (due_of t begins ends x)) →
     (is_pack (kind_at t x) ≡ false → ready'' ≡ set ready' (home t x) (set (get_or ready' (home t x) []) (place t x) (get_or ends x 0))) →
     (is_pack (kind_at t x) ≡ false → stale'' ≡ set stale' (home t x) true) →
     (is_pack (kind_at t x) ≡ true → (remains'' ≡ remains') × (ready'' ≡ ready') × (stale'' ≡ stale')) →
-    AreBegun t begins ends (range_with_len 0 (length t.nodes)) remains ready stale remains' ready' stale' x → AreBegun t begins ends (range_with_len 0 (length t.nodes)) remains ready stale remains'' ready'' stale'' (x + 1)
-begun_next t h begins ends remains ready stale remains' ready' stale' remains'' ready'' stale'' x l long_r long_k long_s places er ek es pack was = elim (cases_Bool (is_pack (kind_at t x))) [
-  | inr off ↦ begun_step t h begins ends (range_with_len 0 (length t.nodes)) remains ready stale remains' ready' stale' remains'' ready'' stale'' x x (l, off) (in_order t x l) long_r long_k long_s
-      (begun_places t ready ready' x was.long (places x (l, off))) (er off) (ek off) (es off) was
-  | inl on ↦
-      (let same = pack on in
-      let skip = begun_skip t begins ends (range_with_len 0 (length t.nodes)) remains ready stale remains' ready' stale' x (λ i. both_ways (is_pack (kind_at t x)) (ap (λ y. is_pack (kind_at t y)) (in_order t x l) ∙ i.1) on) was in
-      let P : List ℕ → List (List ℕ) → List Bool → Type 0 = λ r k m. AreBegun t begins ends (range_with_len 0 (length t.nodes)) remains ready stale r k m (x + 1) in
-      subst (λ (m : List Bool). P remains'' ready'' m) (sym same.2) (subst₂ (λ (r : List ℕ) (k : List (List ℕ)). P r k stale') (sym same.0) (sym same.1) skip))
-]
+    AreBegun t begins ends (range_with_len 0 (length t.nodes)) remains ready stale remains' ready' stale' x → AreBegun t begins ends
+    (range_with_len 0 (length t.nodes)) remains ready stale remains'' ready'' stale'' (x + 1)
+begun_next t h begins ends remains ready stale remains' ready' stale' remains'' ready'' stale'' x l long_r long_k long_s places er ek es pack was =
+    elim (cases_Bool (is_pack (kind_at t x))) [
+      | inr off ↦ begun_step t h begins ends (range_with_len 0 (length t.nodes)) remains ready stale remains' ready' stale' remains'' ready'' stale'' x x (
+        l,
+        off,
+      ) (in_order t x l) long_r long_k long_s
+          (begun_places t ready ready' x was.long (places x (l, off))) (er off) (ek off) (es off) was
+      | inl on ↦
+          (let same = pack on in
+          let skip = begun_skip t begins ends (range_with_len 0 (length t.nodes)) remains ready stale remains' ready' stale' x
+          (λ i. both_ways (is_pack (kind_at t x)) (ap (λ y. is_pack (kind_at t y)) (in_order t x l) ∙ i.1) on) was in
+          let P : List ℕ → List (List ℕ) → List Bool → Type 0 = λ r k m. AreBegun t begins ends (range_with_len 0 (length t.nodes)) remains ready stale r k m
+          (x + 1) in
+          subst (λ (m : List Bool). P remains'' ready'' m) (sym same.2) (subst₂ (λ (r : List ℕ) (k : List (List ℕ)). P r k stale') (sym same.0) (sym same.1)
+          skip))
+    ]
 
 -- the place of a member stands in its pack's knockout
 pub blank_places : (t : Tree) → IsTree t → (s : ServingContents) → IsBlank t s → (x : ℕ) → IsMember t x → place t x < length (get_or s.ready (home t x) [])
@@ -63,7 +74,8 @@ blank_places t h s b x i =
     let l = at.1 in
     omega (arith, e, l)
 
-module _ (p : PlanContents) (h : IsPlan p) (s : ServingContents) (b : IsBlank p.tree s) (d : DueContents) (none_left : d.remains ≡ replicate (length p.tree.nodes) 0) (none_run : d.runs ≡ replicate (length p.tree.nodes) false) (ends : List ℕ)
+module _ (p : PlanContents) (h : IsPlan p) (s : ServingContents) (b : IsBlank p.tree s) (d : DueContents) (none_left : d.remains ≡ replicate
+    (length p.tree.nodes) 0) (none_run : d.runs ≡ replicate (length p.tree.nodes) false) (ends : List ℕ)
     (near : (x : ℕ) → IsMember p.tree x → get_or ends x 0 < never) where
   no_run : (x : ℕ) → get_or d.runs x false ≡ false
   no_run x = ap (λ (rs : List Bool). get_or rs x false) none_run ∙ all_false (length p.tree.nodes) x
@@ -86,7 +98,8 @@ module _ (p : PlanContents) (h : IsPlan p) (s : ServingContents) (b : IsBlank p.
   pub blank_serving : IsServing p.tree d ends s
   blank_serving = record {
     picks = λ q i. record {
-      long = ap (λ (ks : List ℕ). length ks) (b.ready q i) ∙ length-replicate {A = ℕ} (length (members p.tree q)) never ∙ sym (candidates_long p.tree d.remains ends q);
+      long = ap (λ (ks : List ℕ). length ks) (b.ready q i) ∙ length-replicate {A = ℕ} (length (members p.tree q)) never
+          ∙ sym (candidates_long p.tree d.remains ends q);
       each = λ k l. (let m = within q k l in
           ap (λ (ks : List ℕ). get_or ks k 0) (b.ready q i) ∙ get_or-replicate (length (members p.tree q)) k never 0 m
           ∙ sym (ready_none (candidate_at (candidates p.tree d.remains ends q) k)
@@ -104,9 +117,11 @@ module _ (p : PlanContents) (h : IsPlan p) (s : ServingContents) (b : IsBlank p.
       long = ap (λ (xs : List ℕ). length xs) b.dry ∙ length-replicate {A = ℕ} (length p.tree.nodes) no_tick;
       members = λ x i. ap (λ (xs : List ℕ). get_or xs x 0) b.dry ∙ get_or-replicate (length p.tree.nodes) x no_tick 0 i.0;
     };
-    told = λ q i off. absurd (both_ways (get_or s.stale q false) off (ap (λ (xs : List Bool). get_or xs q false) b.stale ∙ get_or-replicate (length p.tree.nodes) q true false i.0));
+    told = λ q i off. absurd (both_ways (get_or s.stale q false) off (ap (λ (xs : List Bool). get_or xs q false) b.stale ∙ get_or-replicate
+        (length p.tree.nodes) q true false i.0));
     led = λ q i. b.runs q i.0 ∙ i.1 ∙ sym (by_dual q i (dual p.tree q) refl);
-    served = λ q i off. absurd (both_ways (get_or s.stale q false) off (ap (λ (xs : List Bool). get_or xs q false) b.stale ∙ get_or-replicate (length p.tree.nodes) q true false i.0));
+    served = λ q i off. absurd (both_ways (get_or s.stale q false) off (ap (λ (xs : List Bool). get_or xs q false) b.stale ∙ get_or-replicate
+        (length p.tree.nodes) q true false i.0));
   }
     where
       within : (q k : ℕ) → k < length (candidates p.tree d.remains ends q) → k < length (members p.tree q)
@@ -117,9 +132,12 @@ module _ (p : PlanContents) (h : IsPlan p) (s : ServingContents) (b : IsBlank p.
       by_dual q i (Some x) e = ap not (member_rests x (dual_is p.tree h.tree.tree q x i e).0)
 
 -- once the first windows of all leaves and duals have begun
-module _ (p : PlanContents) (h : IsPlan p) (s s' : ServingContents) (b : IsBlank p.tree s) (d d' : DueContents) (none_left : d.remains ≡ replicate (length p.tree.nodes) 0) (none_run : d.runs ≡ replicate (length p.tree.nodes) false)
-    (c : CalendarContents) (belongs : BelongsTo p c) (tick : d'.tick ≡ d.tick) (dues : d'.runs ≡ d.runs) (serves : s'.serves ≡ s.serves) (dry : s'.dry ≡ s.dry) (runs : s'.runs ≡ s.runs)
-    (a : AreBegun p.tree c.begins c.ends (range_with_len 0 (length p.tree.nodes)) d.remains s.ready s.stale d'.remains s'.ready s'.stale (length p.tree.nodes)) where
+module _ (p : PlanContents) (h : IsPlan p) (s s' : ServingContents) (b : IsBlank p.tree s) (d d' : DueContents) (none_left : d.remains ≡ replicate
+    (length p.tree.nodes) 0) (none_run : d.runs ≡ replicate (length p.tree.nodes) false)
+    (c : CalendarContents) (belongs : BelongsTo p c) (tick : d'.tick ≡ d.tick) (dues : d'.runs ≡ d.runs) (serves : s'.serves ≡ s.serves)
+    (dry : s'.dry ≡ s.dry) (runs : s'.runs ≡ s.runs)
+    (a : AreBegun p.tree c.begins c.ends (range_with_len 0 (length p.tree.nodes)) d.remains s.ready s.stale d'.remains s'.ready s'.stale
+    (length p.tree.nodes)) where
   in_range : (x : ℕ) → x < length p.tree.nodes → get_or (range_with_len 0 (length p.tree.nodes)) x 0 ≡ x
   in_range x l = sym (in_order p.tree x l)
 
@@ -129,9 +147,14 @@ module _ (p : PlanContents) (h : IsPlan p) (s s' : ServingContents) (b : IsBlank
   pub first_serving : IsServing p.tree d' c.ends s'
   first_serving =
       turned_serving p.tree h.tree.tree d d' c.ends c.ends s s' (blank_serving p h s b d none_left none_run c.ends (λ x i. end_near p h c belongs x i))
-      (λ x i. inl ((let e = first_filled x i in let l = due_some p h c belongs x i in omega (arith, e, l)), a.put x x i.0 (in_range x i.0) i, a.marked x x i.0 (in_range x i.0) i))
+      (λ x i. inl (
+        (let e = first_filled x i in let l = due_some p h c belongs x i in omega (arith, e, l)),
+        a.put x x i.0 (in_range x i.0) i,
+        a.marked x x i.0 (in_range x i.0) i,
+      ))
       (λ x i. end_near p h c belongs x i) a.long a.unmarked tick dues serves dry runs
 
   -- all packs are still marked
   pub first_marked : (q : ℕ) → IsPack p.tree q → get_or s'.stale q false ≡ false → ⊥
-  first_marked q i off = both_ways (get_or s.stale q false) (a.unmarked q off) (ap (λ (xs : List Bool). get_or xs q false) b.stale ∙ get_or-replicate (length p.tree.nodes) q true false i.0)
+  first_marked q i off = both_ways (get_or s.stale q false) (a.unmarked q off) (ap (λ (xs : List Bool). get_or xs q false) b.stale ∙ get_or-replicate
+      (length p.tree.nodes) q true false i.0)

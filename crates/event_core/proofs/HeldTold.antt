@@ -1,5 +1,6 @@
 -- The processors of packs that are held are told.
-use Rattle.std.proofs.Common.{◌≡◌, ◌≢◌, ℕ, ◌+◌, ◌<◌, List, length, get_or, get_or-set_same, Option, None, Some, refl, ap, arith, inl, inr, sym, subst, subst₂, ◌∙◌}
+use Rattle.std.proofs.Common.{◌≡◌, ◌≢◌, ℕ, ◌+◌, ◌<◌, List, length, get_or, get_or-set_same, Option, None, Some, refl, ap, arith, inl, inr, sym, subst}
+use Rattle.std.proofs.Common.{subst₂, ◌∙◌}
 use Rattle.std.proofs.lemmas.Bool.{cases_lt}
 use Rattle.std.proofs.Math.ListN.{set}
 use Rattle.event_core.specs.Told.{AreHeldTold}
@@ -10,7 +11,8 @@ pub held_none : (onto : List (Option ℕ)) (packs told : List ℕ) → AreHeldTo
 held_none onto packs told = record { few = omega arith; each = λ k q l. absurd (omega (arith, l)); processors = λ j l. absurd (omega (arith, l)) }
 
 -- a pack that no processor holds
-held_skip : (onto : List (Option ℕ)) (packs told : List ℕ) (n count : ℕ) → ((q : ℕ) → get_or onto q None ≢ Some (get_or packs n 0)) → AreHeldTold onto packs told n count → AreHeldTold onto packs told (n + 1) count
+held_skip : (onto : List (Option ℕ)) (packs told : List ℕ) (n count : ℕ) → ((q : ℕ) → get_or onto q None ≢ Some (get_or packs n 0)) → AreHeldTold onto packs
+    told n count → AreHeldTold onto packs told (n + 1) count
 held_skip onto packs told n count none t = record {
   few = (let f = t.few in omega (arith, f));
   each = λ k q l at. elim (cases_lt k n) [
@@ -23,7 +25,8 @@ held_skip onto packs told n count none t = record {
 }
 
 -- and one that processor p alone holds
-held_step : (onto : List (Option ℕ)) (packs told told' : List ℕ) (n count p : ℕ) → count < length told → told' ≡ set told count p → p < length onto → ((q : ℕ) → get_or onto q None ≡ Some (get_or packs n 0) → p ≡ q) →
+held_step : (onto : List (Option ℕ)) (packs told told' : List ℕ) (n count p : ℕ) → count < length told → told' ≡ set told count p → p < length onto →
+    ((q : ℕ) → get_or onto q None ≡ Some (get_or packs n 0) → p ≡ q) →
     AreHeldTold onto packs told n count → AreHeldTold onto packs told' (n + 1) (count + 1)
 held_step onto packs told told' n count p room is within here t = record {
   few = (let f = t.few in omega (arith, f));
@@ -52,11 +55,14 @@ held_step onto packs told told' n count p room is within here t = record {
     older j l = ap (λ (xs : List ℕ). get_or xs j 0) is ∙ set_other told count p j (λ e. omega (arith, l, e))
 
 -- the next pack is done
-pub held_next : (onto : List (Option ℕ)) (packs told told' : List ℕ) (n count count' : ℕ) (o : Option ℕ) → count < length told → ((q : ℕ) → get_or onto q None ≡ Some (get_or packs n 0) → o ≡ Some q) → ((q : ℕ) → o ≡ Some q → q < length onto) →
-    ((q : ℕ) → o ≡ Some q → (count' ≡ count + 1) × (told' ≡ set told count q)) → (o ≡ None → (count' ≡ count) × (told' ≡ told)) → AreHeldTold onto packs told n count → AreHeldTold onto packs told' (n + 1) count'
+pub held_next : (onto : List (Option ℕ)) (packs told told' : List ℕ) (n count count' : ℕ) (o : Option ℕ) → count < length told →
+    ((q : ℕ) → get_or onto q None ≡ Some (get_or packs n 0) → o ≡ Some q) → ((q : ℕ) → o ≡ Some q → q < length onto) →
+    ((q : ℕ) → o ≡ Some q → (count' ≡ count + 1) × (told' ≡ set told count q)) → (o ≡ None → (count' ≡ count) × (told' ≡ told)) → AreHeldTold onto packs
+    told n count → AreHeldTold onto packs told' (n + 1) count'
 held_next onto packs told told' n count count' None room holder within some none t =
     let (same, still) = none refl in
-    subst₂ (λ (m : ℕ) (xs : List ℕ). AreHeldTold onto packs xs (n + 1) m) (sym same) (sym still) (held_skip onto packs told n count (λ q at. let e : None ≡ Some q = holder q at in cc) t)
+    subst₂ (λ (m : ℕ) (xs : List ℕ). AreHeldTold onto packs xs (n + 1) m) (sym same) (sym still) (held_skip onto packs told n count
+    (λ q at. let e : None ≡ Some q = holder q at in cc) t)
 held_next onto packs told told' n count count' (Some p) room holder within some none t =
     let (more, is) = some p refl in
     subst (λ (m : ℕ). AreHeldTold onto packs told' (n + 1) m) (sym more)

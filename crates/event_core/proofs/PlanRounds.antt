@@ -31,7 +31,8 @@ module _ (p : PlanContents) (h : IsPlan p) where
   module _ (start end : ℕ) (r : IsRoundUpTo p start end) where
     -- the rows of a round are a whole round
     pub is_round : IsRound start (rows_of_round p start end)
-    is_round = let up = r.above in let below = r.below in let fits = stop_fits p h in set_round p.set h.lawful p.tree h.tree start end up (omega (arith, below, fits))
+    is_round = let up = r.above in let below = r.below in let fits = stop_fits p h in set_round p.set h.lawful p.tree h.tree start end up
+        (omega (arith, below, fits))
 
     -- the lanes before its end are those before its start with one round more
     pub next_lanes : lanes_of p.tree.processors (rows_before p end) ≡ with_round (lanes_of p.tree.processors (rows_before p start)) (rows_of_round p start end)
@@ -49,7 +50,8 @@ module _ (p : PlanContents) (h : IsPlan p) where
 
       -- it ends where the round does
       pub next_end : end_of (with_round lanes (rows_of_round p start end)) ≡ end
-      next_end = end_of-with_round lanes (rows_of_round p start end) end same_length some_lanes (λ row at. ap (λ (x : Row). x.end) (round_get p.set.tasks p.tree start end 0 row at))
+      next_end = end_of-with_round lanes (rows_of_round p start end) end same_length some_lanes (λ row at. ap (λ (x : Row). x.end) (round_get p.set.tasks
+          p.tree start end 0 row at))
 
       -- it has one round more
       pub next_count : rounds_in (with_round lanes (rows_of_round p start end)) ≡ rounds_in lanes + 1

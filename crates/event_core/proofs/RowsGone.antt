@@ -27,15 +27,18 @@ all_at P (x ∷ xs) (suc k) none l all = all_at P xs k none (omega (arith, l)) a
 
 module _ (p : PlanContents) (h : IsPlan p) (n : ℕ) where
   pub as_many : length (onto_at (set_boundary p.set.tasks) p.tree n) ≡ p.tree.processors
-  as_many = (let e = ap (λ (os : List (Option ℕ)). length os) (onto_is (set_boundary p.set.tasks) p.tree n) in e ∙ length-places (set_boundary p.set.tasks) p.tree (suc n))
+  as_many = (let e = ap (λ (os : List (Option ℕ)). length os) (onto_is (set_boundary p.set.tasks) p.tree n) in e ∙ length-places (set_boundary p.set.tasks)
+      p.tree (suc n))
 
   -- the pack on a processor is one of level 0
   pub pack_within : (q i : ℕ) → q < p.tree.processors → get_or (onto_at (set_boundary p.set.tasks) p.tree n) q None ≡ Some i → i < length (packs_at p.tree 0)
   pack_within q i l at =
       let long = as_many in
-      (onto_within (set_boundary p.set.tasks) p.tree h.tree.tree (plan_leaves p h) n i (held_at (onto_at (set_boundary p.set.tasks) p.tree n) q i (omega (arith, l, long)) at)).0
+      (onto_within (set_boundary p.set.tasks) p.tree h.tree.tree (plan_leaves p h) n i (held_at (onto_at (set_boundary p.set.tasks) p.tree n) q i
+      (omega (arith, l, long)) at)).0
 
-  module _ (rs : List Bool) (says : SaysRuns p n rs) (onto : List (Option ℕ)) (is : onto ≡ onto_at (set_boundary p.set.tasks) p.tree n) (end q : ℕ) (l : q < p.tree.processors) where
+  module _ (rs : List Bool) (says : SaysRuns p n rs) (onto : List (Option ℕ)) (is : onto ≡ onto_at (set_boundary p.set.tasks) p.tree n) (end q : ℕ)
+      (l : q < p.tree.processors) where
     -- the row of processor q
     pub row_gone : (none : Row) → get_or (rows_of_round p n end) q none ≡ row_by p rs n end q (get_or onto q None)
     row_gone none =
@@ -54,5 +57,6 @@ module _ (p : PlanContents) (h : IsPlan p) (n : ℕ) where
         let long = as_many in
         let rows = length-rows p.set.tasks p.tree n end 0 (onto_at (set_boundary p.set.tasks) p.tree n) in
         let same = ap (λ (rs : List Row). length rs) (round_is p.set.tasks p.tree n end) in
-        let full = all_at (λ (r : Row). r.leaf ≡ Empty → ⊥) (rows_of_round p n end) q none (omega (arith, l, long, rows, same)) (round_full p.set.tasks p.tree h.tree.tree (plan_leaves p h) h.tree.tasks n end) in
+        let full = all_at (λ (r : Row). r.leaf ≡ Empty → ⊥) (rows_of_round p n end) q none (omega (arith, l, long, rows, same)) (round_full p.set.tasks
+        p.tree h.tree.tree (plan_leaves p h) h.tree.tasks n end) in
         full (ap (λ (r : Row). r.leaf) (row_gone none) ∙ sym e ∙ empty)

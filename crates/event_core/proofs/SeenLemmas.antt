@@ -1,5 +1,6 @@
 -- The packs of level 0 that were looked at.
-use Rattle.std.proofs.Common.{◌≡◌, ◌≢◌, ℕ, zero, suc, ◌<◌, ◌≤◌, ◌++◌, Bool, true, false, List, [], ◌∷◌, length, get_or, Option, None, refl, ap, arith, inl, inr, sym, subst, subst₂, not, ◌&&◌, ◌∙◌}
+use Rattle.std.proofs.Common.{◌≡◌, ◌≢◌, ℕ, zero, suc, ◌<◌, ◌≤◌, ◌++◌, Bool, true, false, List, [], ◌∷◌, length, get_or, Option, None, refl, ap, arith}
+use Rattle.std.proofs.Common.{inl, inr, sym, subst, subst₂, not, ◌&&◌, ◌∙◌}
 use Rattle.std.proofs.lemmas.Bool.{cases_lt, cases_eq}
 use Rattle.std.proofs.lemmas.List.{length-append, append-nil}
 use Rattle.run_tree.specs.Tree.{Tree, IsTree, level}
@@ -13,7 +14,8 @@ use Rattle.event_core.proofs.SettledPacks.{first_apart}
 none_in : (xs : List ℕ) (k : ℕ) → xs ≡ [] → k < length xs → ⊥
 none_in xs k e l = let n = ap (λ (ys : List ℕ). length ys) e in omega (arith, n, l)
 
-pub seen_none : (t : Tree) (serves : List (Option ℕ)) (changes : ChangeLists) → changes.seen ≡ [] → changes.stopped ≡ [] → changes.begun ≡ [] → AreSeen t serves serves changes
+pub seen_none : (t : Tree) (serves : List (Option ℕ)) (changes : ChangeLists) → changes.seen ≡ [] → changes.stopped ≡ [] → changes.begun ≡ [] →
+    AreSeen t serves serves changes
 seen_none t serves changes seen stopped begun = record {
   within = λ k l. absurd (none_in changes.seen k seen l);
   same = λ i l no. refl;
@@ -38,7 +40,8 @@ among_last : (xs : List ℕ) (x : ℕ) → IsAmong (xs ++ x ∷ []) x
 among_last xs x = let n = length-append xs (x ∷ []) in (length xs, omega (arith, n), get_last xs x)
 
 -- one more that may be listed is seen
-listed_among : (xs seen : List ℕ) (i : ℕ) (on : Bool) → ((k : ℕ) → k < length xs → IsAmong seen (get_or xs k 0)) → (k : ℕ) → k < length (with_pack xs i on) → IsAmong (seen ++ i ∷ []) (get_or (with_pack xs i on) k 0)
+listed_among : (xs seen : List ℕ) (i : ℕ) (on : Bool) → ((k : ℕ) → k < length xs → IsAmong seen (get_or xs k 0)) → (k : ℕ) → k < length (with_pack xs i on)
+    → IsAmong (seen ++ i ∷ []) (get_or (with_pack xs i on) k 0)
 listed_among xs seen i false all k l =
     let e = append-nil xs in
     let n = ap (λ (ys : List ℕ). length ys) e in
@@ -52,8 +55,10 @@ listed_among xs seen i true all k l = elim (cases_lt k (length xs)) [
 ]
 
 -- one pack more is looked at
-pub seen_step : (t : Tree) (first before after : List (Option ℕ)) (was now : ChangeLists) (p i : ℕ) → i < length (packs_at t 0) → p ≡ get_or (packs_at t 0) i 0 → (stops begins : Bool) →
-    ((q : ℕ) → q ≢ p → get_or after q None ≡ get_or before q None) → now.seen ≡ was.seen ++ i ∷ [] → now.stopped ≡ with_pack was.stopped i stops → now.begun ≡ with_pack was.begun i begins →
+pub seen_step : (t : Tree) (first before after : List (Option ℕ)) (was now : ChangeLists) (p i : ℕ) → i < length (packs_at t 0) → p ≡ get_or (packs_at t 0)
+    i 0 → (stops begins : Bool) →
+    ((q : ℕ) → q ≢ p → get_or after q None ≡ get_or before q None) → now.seen ≡ was.seen ++ i ∷ [] → now.stopped ≡ with_pack was.stopped i stops →
+    now.begun ≡ with_pack was.begun i begins →
     AreSeen t first before was → AreSeen t first after now
 seen_step t first before after was now p i l at stops begins others seen stopped begun s = record {
   within = λ k m. subst (λ (xs : List ℕ). k < length xs → get_or xs k 0 < length (packs_at t 0)) (sym seen) (λ b. elim (cases_lt k (length was.seen)) [
@@ -70,19 +75,25 @@ seen_step t first before after was now p i l at stops begins others seen stopped
         ∙ s.same j m (λ a. no (subst (λ (xs : List ℕ). IsAmong xs j) (sym seen) (among_more was.seen i j a)))
   ];
   stops = λ k m. subst (λ (xs : List ℕ). IsAmong xs (get_or now.stopped k 0)) (sym seen)
-      (subst (λ (xs : List ℕ). k < length xs → IsAmong (was.seen ++ i ∷ []) (get_or xs k 0)) (sym stopped) (listed_among was.stopped was.seen i stops s.stops k) m);
+      (subst (λ (xs : List ℕ). k < length xs → IsAmong (was.seen ++ i ∷ []) (get_or xs k 0)) (sym stopped) (listed_among was.stopped was.seen i stops
+      s.stops k) m);
   begins = λ k m. subst (λ (xs : List ℕ). IsAmong xs (get_or now.begun k 0)) (sym seen)
-      (subst (λ (xs : List ℕ). k < length xs → IsAmong (was.seen ++ i ∷ []) (get_or xs k 0)) (sym begun) (listed_among was.begun was.seen i begins s.begins k) m);
+      (subst (λ (xs : List ℕ). k < length xs → IsAmong (was.seen ++ i ∷ []) (get_or xs k 0)) (sym begun) (listed_among was.begun was.seen i begins s.begins
+      k) m);
 }
 
 -- where it serves the same member and neither stops nor begins, it needn't be listed
-pub seen_same : (t : Tree) (first before after : List (Option ℕ)) (was now : ChangeLists) (p i : ℕ) (stops begins : Bool) → ((q : ℕ) → q ≢ p → get_or after q None ≡ get_or before q None) → get_or after p None ≡ get_or before p None →
-    now.seen ≡ was.seen → stops ≡ false → begins ≡ false → now.stopped ≡ with_pack was.stopped i stops → now.begun ≡ with_pack was.begun i begins → AreSeen t first before was → AreSeen t first after now
+pub seen_same : (t : Tree) (first before after : List (Option ℕ)) (was now : ChangeLists) (p i : ℕ) (stops begins : Bool) →
+    ((q : ℕ) → q ≢ p → get_or after q None ≡ get_or before q None) → get_or after p None ≡ get_or before p None →
+    now.seen ≡ was.seen → stops ≡ false → begins ≡ false → now.stopped ≡ with_pack was.stopped i stops → now.begun ≡ with_pack was.begun i begins →
+    AreSeen t first before was → AreSeen t first after now
 seen_same t first before after was now p i stops begins others own seen stays rests stopped begun s = record {
   within = λ k m. subst (λ (xs : List ℕ). k < length xs → get_or xs k 0 < length (packs_at t 0)) (sym seen) (λ b. s.within k b) m;
   same = λ j m no. every (get_or (packs_at t 0) j 0) ∙ s.same j m (λ a. no (subst (λ (xs : List ℕ). IsAmong xs j) (sym seen) a));
-  stops = λ k m. subst₂ (λ (xs ys : List ℕ). k < length xs → IsAmong ys (get_or xs k 0)) (sym (none_more was.stopped now.stopped stops stays stopped)) (sym seen) (s.stops k) m;
-  begins = λ k m. subst₂ (λ (xs ys : List ℕ). k < length xs → IsAmong ys (get_or xs k 0)) (sym (none_more was.begun now.begun begins rests begun)) (sym seen) (s.begins k) m;
+  stops = λ k m. subst₂ (λ (xs ys : List ℕ). k < length xs → IsAmong ys (get_or xs k 0)) (sym (none_more was.stopped now.stopped stops stays stopped))
+      (sym seen) (s.stops k) m;
+  begins = λ k m. subst₂ (λ (xs ys : List ℕ). k < length xs → IsAmong ys (get_or xs k 0)) (sym (none_more was.begun now.begun begins rests begun))
+      (sym seen) (s.begins k) m;
 }
   where
     every : (q : ℕ) → get_or after q None ≡ get_or before q None
@@ -104,7 +115,8 @@ none_begins false held e = refl
 none_begins true held e = ap (λ (b : Bool). not b) (sym e)
 
 -- before that nothing changed in level 0
-pub seen_since : (t : Tree) (first before after : List (Option ℕ)) (changes : ChangeLists) → ((k : ℕ) → k < length (packs_at t 0) → first_served t before k ≡ first_served t first k) → AreSeen t before after changes → AreSeen t first after changes
+pub seen_since : (t : Tree) (first before after : List (Option ℕ)) (changes : ChangeLists) → ((k : ℕ) → k < length (packs_at t 0) →
+    first_served t before k ≡ first_served t first k) → AreSeen t before after changes → AreSeen t first after changes
 seen_since t first before after changes still s = record {
   within = s.within;
   same = λ i l no. s.same i l no ∙ still i l;
@@ -113,7 +125,8 @@ seen_since t first before after changes still s = record {
 }
 
 -- a pack above level 0 is none of level 0
-pub above_first : (t : Tree) → IsTree t → (l i p : ℕ) → 1 ≤ l → i < length (packs_at t l) → p ≡ get_or (packs_at t l) i 0 → (k : ℕ) → k < length (packs_at t 0) → get_or (packs_at t 0) k 0 ≢ p
+pub above_first : (t : Tree) → IsTree t → (l i p : ℕ) → 1 ≤ l → i < length (packs_at t l) → p ≡ get_or (packs_at t l) i 0 → (k : ℕ) →
+    k < length (packs_at t 0) → get_or (packs_at t 0) k 0 ≢ p
 above_first t h l i p high b at k c same =
     let low = (pack_of_level t h 0 k c).1 in
     let up = (pack_of_level t h l i b).1 in

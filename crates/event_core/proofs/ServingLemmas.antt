@@ -1,5 +1,6 @@
 -- One member of a pack for another, among those that run.
-use Rattle.std.proofs.Common.{option_map, ◌≡◌, ◌≢◌, ℕ, ◌+◌, ◌<◌, Bool, true, false, List, length, Option, Some, None, refl, ap, ap₂, arith, inl, inr, sym, subst, ◌∙◌, get_or, eq-eqb, get_or-set_same, get_or-set_other}
+use Rattle.std.proofs.Common.{option_map, ◌≡◌, ◌≢◌, ℕ, ◌+◌, ◌<◌, Bool, true, false, List, length, Option, Some, None, refl, ap, ap₂, arith, inl, inr}
+use Rattle.std.proofs.Common.{sym, subst, ◌∙◌, get_or, eq-eqb, get_or-set_same, get_or-set_other}
 use Rattle.std.proofs.lemmas.Bool.{cases_eq, ne_eqb}
 use Rattle.std.proofs.lemmas.List.{length-set}
 use Rattle.std.proofs.Math.ListN.{set}
@@ -13,15 +14,20 @@ module _ (t : Tree) (h : IsTree t) (p : ℕ) (i : IsPack t p) where
   with_long None on runs = refl
   with_long (Some k) on runs = length-set runs (member t p k) on
 
-  with_other : (k : Option ℕ) (on : Bool) (runs : List Bool) (x : ℕ) → ((j : ℕ) → k ≡ Some j → j < length (members t p)) → home t x ≢ p → get_or (with_place t p k on runs) x false ≡ get_or runs x false
+  with_other : (k : Option ℕ) (on : Bool) (runs : List Bool) (x : ℕ) → ((j : ℕ) → k ≡ Some j → j < length (members t p)) → home t x ≢ p →
+      get_or (with_place t p k on runs) x false ≡ get_or runs x false
   with_other None on runs x within apart = refl
-  with_other (Some k) on runs x within apart = (let ne : x ≢ member t p k = (λ e. apart (ap (home t) e ∙ (h.members_are p k i (within k refl)).1)) in rw get_or-set_other refl)
+  with_other (Some k) on runs x within apart = (let ne : x ≢ member t p k = (λ e. apart (ap (home t) e ∙ (h.members_are p k i (within k refl)).1)) in
+      rw get_or-set_other refl)
 
-  with_rest : (k : Option ℕ) (on : Bool) (runs : List Bool) (x : ℕ) → ((j : ℕ) → k ≡ Some j → j < length (members t p)) → (IsMember t x → ⊥) → get_or (with_place t p k on runs) x false ≡ get_or runs x false
+  with_rest : (k : Option ℕ) (on : Bool) (runs : List Bool) (x : ℕ) → ((j : ℕ) → k ≡ Some j → j < length (members t p)) → (IsMember t x → ⊥) →
+      get_or (with_place t p k on runs) x false ≡ get_or runs x false
   with_rest None on runs x within none = refl
-  with_rest (Some k) on runs x within none = (let ne : x ≢ member t p k = (λ e. none (subst (λ (y : ℕ). IsMember t y) (sym e) (h.members_are p k i (within k refl)).0)) in rw get_or-set_other refl)
+  with_rest (Some k) on runs x within none = (let ne : x ≢ member t p k =
+      (λ e. none (subst (λ (y : ℕ). IsMember t y) (sym e) (h.members_are p k i (within k refl)).0)) in rw get_or-set_other refl)
 
-  with_at : (k : Option ℕ) (on : Bool) (runs : List Bool) (j : ℕ) → length runs ≡ length t.nodes → ((n : ℕ) → k ≡ Some n → n < length (members t p)) → j < length (members t p) →
+  with_at : (k : Option ℕ) (on : Bool) (runs : List Bool) (j : ℕ) → length runs ≡ length t.nodes → ((n : ℕ) → k ≡ Some n → n < length (members t p)) →
+      j < length (members t p) →
       get_or (with_place t p k on runs) (member t p j) false ≡ elim (is_at k j) as (λ z. Bool) [ true ↦ on | false ↦ get_or runs (member t p j) false ]
   with_at None on runs j long within l = refl
   with_at (Some k) on runs j long within l = elim (cases_eq k j) [
@@ -46,7 +52,8 @@ module _ (t : Tree) (h : IsTree t) (p : ℕ) (i : IsPack t p) where
   with_nobody None on runs e = refl
   with_nobody (Some j) on runs e = cc
 
-  pub runs_node : (k : Option ℕ) (m : ℕ) (on : Bool) (runs : List Bool) → Some m ≡ option_map (member t p) k → ((j : ℕ) → k ≡ Some j → get_or runs (member t p j) false ≡ on) → get_or runs m false ≡ on
+  pub runs_node : (k : Option ℕ) (m : ℕ) (on : Bool) (runs : List Bool) → Some m ≡ option_map (member t p) k → ((j : ℕ) → k ≡ Some j →
+      get_or runs (member t p j) false ≡ on) → get_or runs m false ≡ on
   runs_node None m on runs e is = cc
   runs_node (Some j) m on runs e is = (let at : m ≡ member t p j = cc in ap (λ x. get_or runs x false) at ∙ is j refl)
 
@@ -64,7 +71,8 @@ module _ (t : Tree) (h : IsTree t) (p : ℕ) (i : IsPack t p) where
   runs_at_node k m runs e within own = runs_node k m true runs e (λ j is. own j (within j is) ∙ ap (λ o. is_at o j) is ∙ eq-eqb j j refl)
 
   -- another member than the one that runs rests
-  pub other_rests : (was next : Option ℕ) (m : ℕ) (runs : List Bool) → was ≢ next → Some m ≡ option_map (member t p) next → ((j : ℕ) → next ≡ Some j → j < length (members t p)) →
+  pub other_rests : (was next : Option ℕ) (m : ℕ) (runs : List Bool) → was ≢ next → Some m ≡ option_map (member t p) next → ((j : ℕ) → next ≡ Some j →
+      j < length (members t p)) →
       ((j : ℕ) → j < length (members t p) → get_or runs (member t p j) false ≡ is_at was j) → get_or runs m false ≡ false
   other_rests was next m runs ne e within own = runs_node next m false runs e (λ j is. own j (within j is) ∙ off was j (λ same. ne (same ∙ sym is)))
     where
@@ -75,29 +83,39 @@ module _ (t : Tree) (h : IsTree t) (p : ℕ) (i : IsPack t p) where
   -- one node for another, by their places
   pub with_nodes : (was next : Option ℕ) (m n : ℕ) (runs : List Bool) → Some m ≡ option_map (member t p) was → Some n ≡ option_map (member t p) next →
       set (set runs m false) n true ≡ with_place t p next true (with_place t p was false runs)
-  with_nodes was next m n runs e f = ap (λ (rs : List Bool). set rs n true) (with_node was m false runs e) ∙ with_node next n true (with_place t p was false runs) f
+  with_nodes was next m n runs e f = ap (λ (rs : List Bool). set rs n true) (with_node was m false runs e) ∙ with_node next n true (with_place t p was false
+      runs) f
 
   -- the tick at which what runs at a place has nothing left stays while ticks and dues do
-  pub dry_still : (d d' : DueContents) (k : Option ℕ) (m : ℕ) → d'.tick ≡ d.tick → d'.remains ≡ d.remains → Some m ≡ option_map (member t p) k → d.tick + get_or d.remains m 0 ≡ dry_by t d' p k
+  pub dry_still : (d d' : DueContents) (k : Option ℕ) (m : ℕ) → d'.tick ≡ d.tick → d'.remains ≡ d.remains → Some m ≡ option_map (member t p) k →
+      d.tick + get_or d.remains m 0 ≡ dry_by t d' p k
   dry_still d d' k m tick remains e = ap₂ (λ (n : ℕ) (rs : List ℕ). n + get_or rs m 0) (sym tick) (sym remains) ∙ dry_node d' k m e
 
   -- once the one that ran has stopped, none of them runs
-  pub none_runs : (was : Option ℕ) (runs runs' : List Bool) (j : ℕ) → length runs ≡ length t.nodes → ((n : ℕ) → was ≡ Some n → n < length (members t p)) → j < length (members t p) →
-      ((n : ℕ) → n < length (members t p) → get_or runs (member t p n) false ≡ is_at was n) → runs' ≡ with_place t p was false runs → get_or runs' (member t p j) false ≡ false
-  none_runs was runs runs' j long within l own is = ap (λ (xs : List Bool). get_or xs (member t p j) false) is ∙ with_at was false runs j long within l ∙ go (is_at was j) refl
+  pub none_runs : (was : Option ℕ) (runs runs' : List Bool) (j : ℕ) → length runs ≡ length t.nodes → ((n : ℕ) → was ≡ Some n → n < length (members t p)) →
+      j < length (members t p) →
+      ((n : ℕ) → n < length (members t p) → get_or runs (member t p n) false ≡ is_at was n) → runs' ≡ with_place t p was false runs →
+      get_or runs' (member t p j) false ≡ false
+  none_runs was runs runs' j long within l own is = ap (λ (xs : List Bool). get_or xs (member t p j) false) is ∙ with_at was false runs j long within l
+      ∙ go (is_at was j) refl
     where
       go : (c : Bool) → is_at was j ≡ c → elim c as (λ z. Bool) [ true ↦ false | false ↦ get_or runs (member t p j) false ] ≡ false
       go true e = refl
       go false e = own j l ∙ e
 
   -- then the other one alone does
-  pub is_over : (was next : Option ℕ) (runs runs' runs'' : List Bool) → length runs ≡ length t.nodes → ((n : ℕ) → was ≡ Some n → n < length (members t p)) → ((n : ℕ) → next ≡ Some n → n < length (members t p)) →
-      ((n : ℕ) → n < length (members t p) → get_or runs (member t p n) false ≡ is_at was n) → runs' ≡ with_place t p was false runs → runs'' ≡ with_place t p next true runs' → IsOver t p next runs runs''
+  pub is_over : (was next : Option ℕ) (runs runs' runs'' : List Bool) → length runs ≡ length t.nodes → ((n : ℕ) → was ≡ Some n → n < length (members t p)) →
+      ((n : ℕ) → next ≡ Some n → n < length (members t p)) →
+      ((n : ℕ) → n < length (members t p) → get_or runs (member t p n) false ≡ is_at was n) → runs' ≡ with_place t p was false runs →
+      runs'' ≡ with_place t p next true runs' → IsOver t p next runs runs''
   is_over was next runs runs' runs'' long before after own stopped started = record {
     each = λ k l. ap (λ (xs : List Bool). get_or xs (member t p k) false) started ∙ with_at next true runs' k long' after l
-        ∙ ap (λ (b : Bool). elim (is_at next k) as (λ z. Bool) [ true ↦ true | false ↦ b ]) (none_runs was runs runs' k long before l own stopped) ∙ same (is_at next k);
-    others = λ x j apart. ap (λ (xs : List Bool). get_or xs x false) started ∙ with_other next true runs' x after apart ∙ ap (λ (xs : List Bool). get_or xs x false) stopped ∙ with_other was false runs x before apart;
-    rest = λ x none. ap (λ (xs : List Bool). get_or xs x false) started ∙ with_rest next true runs' x after none ∙ ap (λ (xs : List Bool). get_or xs x false) stopped ∙ with_rest was false runs x before none;
+        ∙ ap (λ (b : Bool). elim (is_at next k) as (λ z. Bool) [ true ↦ true | false ↦ b ]) (none_runs was runs runs' k long before l own stopped)
+        ∙ same (is_at next k);
+    others = λ x j apart. ap (λ (xs : List Bool). get_or xs x false) started ∙ with_other next true runs' x after apart
+        ∙ ap (λ (xs : List Bool). get_or xs x false) stopped ∙ with_other was false runs x before apart;
+    rest = λ x none. ap (λ (xs : List Bool). get_or xs x false) started ∙ with_rest next true runs' x after none
+        ∙ ap (λ (xs : List Bool). get_or xs x false) stopped ∙ with_rest was false runs x before none;
     long = ap (λ (xs : List Bool). length xs) started ∙ with_long next true runs' ∙ ap (λ (xs : List Bool). length xs) stopped ∙ with_long was false runs;
   }
     where
@@ -109,11 +127,13 @@ module _ (t : Tree) (h : IsTree t) (p : ℕ) (i : IsPack t p) where
       same false = refl
 
   -- nothing changes
-  pub over_same : (was next : Option ℕ) (runs : List Bool) → was ≡ next → ((n : ℕ) → n < length (members t p) → get_or runs (member t p n) false ≡ is_at was n) → IsOver t p next runs runs
+  pub over_same : (was next : Option ℕ) (runs : List Bool) → was ≡ next → ((n : ℕ) → n < length (members t p) → get_or runs (member t p n) false ≡ is_at was
+      n) → IsOver t p next runs runs
   over_same was next runs e own = record { each = λ k l. own k l ∙ ap (λ o. is_at o k) e; others = λ x j apart. refl; rest = λ x none. refl; long = refl }
 
   -- so a list of all nodes and one of the dues go on saying the same of members
-  pub agree_still : (next : Option ℕ) (runs runs' dues dues' : List Bool) → IsOver t p next dues dues' → ((x : ℕ) → IsMember t x → get_or dues x false ≡ get_or runs x false) →
+  pub agree_still : (next : Option ℕ) (runs runs' dues dues' : List Bool) → IsOver t p next dues dues' → ((x : ℕ) → IsMember t x →
+      get_or dues x false ≡ get_or runs x false) →
       ((k : ℕ) → k < length (members t p) → get_or runs' (member t p k) false ≡ is_at next k) →
       ((q k : ℕ) → IsPack t q → q ≢ p → k < length (members t q) → get_or runs' (member t q k) false ≡ get_or runs (member t q k) false) →
       (x : ℕ) → IsMember t x → get_or dues' x false ≡ get_or runs' x false

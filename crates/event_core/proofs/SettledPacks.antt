@@ -1,5 +1,6 @@
 -- Packs of level 0 that stop and begin, and those that are where they belong.
-use Rattle.std.proofs.Common.{◌≡◌, ◌≢◌, ℕ, zero, suc, ◌+◌, ◌-◌, ◌<◌, ◌≤◌, ◌&&◌, ◌++◌, not, cond, Bool, true, false, List, [], ◌∷◌, filter, length, get_or, Option, refl, ap, ap₂, arith, inl, inr, sym, ◌∙◌}
+use Rattle.std.proofs.Common.{◌≡◌, ◌≢◌, ℕ, zero, suc, ◌+◌, ◌-◌, ◌<◌, ◌≤◌, ◌&&◌, ◌++◌, not, cond, Bool, true, false, List, [], ◌∷◌, filter, length}
+use Rattle.std.proofs.Common.{get_or, Option, refl, ap, ap₂, arith, inl, inr, sym, ◌∙◌}
 use Rattle.std.specs.List.{range_with_len}
 use Rattle.std.proofs.lemmas.Bool.{cases_Bool, cases_lt, both_ways}
 use Rattle.std.proofs.lemmas.List.{length-map, get_or-map, append-nil}
@@ -31,7 +32,8 @@ use Rattle.event_core.proofs.QuietRounds.{plan_leaves}
 
 module _ (t : Tree) (h : IsTree t) (onto : List (Option ℕ)) (stale runs stale' runs' : List Bool) (p : ℕ) (s : AreUnchanged t p stale runs stale' runs') where
   -- a pack of another level is served
-  pub settled_above : (l i : ℕ) → 1 ≤ l → i < length (packs_at t l) → p ≡ get_or (packs_at t l) i 0 → AreSettledFrom t onto stale runs 0 → AreSettledFrom t onto stale' runs' 0
+  pub settled_above : (l i : ℕ) → 1 ≤ l → i < length (packs_at t l) → p ≡ get_or (packs_at t l) i 0 → AreSettledFrom t onto stale runs 0 →
+      AreSettledFrom t onto stale' runs' 0
   settled_above l i up b at settled j low c off =
       let q = get_or (packs_at t 0) j 0 in
       let is_pack = first_is_pack t h j c in
@@ -53,7 +55,8 @@ first_apart t i j b c ne same = elim (cases_lt i j) [
   ]
 ]
 
-module _ (t : Tree) (h : IsTree t) (onto : List (Option ℕ)) (stale runs stale' runs' : List Bool) (p i : ℕ) (b : i < length (packs_at t 0)) (at : p ≡ get_or (packs_at t 0) i 0) (s : AreUnchanged t p stale runs stale' runs') where
+module _ (t : Tree) (h : IsTree t) (onto : List (Option ℕ)) (stale runs stale' runs' : List Bool) (p i : ℕ) (b : i < length (packs_at t 0))
+    (at : p ≡ get_or (packs_at t 0) i 0) (s : AreUnchanged t p stale runs stale' runs') where
   -- pack i of level 0 is served
   pub settled_rest : AreSettledFrom t onto stale runs i → AreSettledFrom t onto stale' runs' (i + 1)
   settled_rest settled j low c off =
@@ -66,10 +69,12 @@ module _ (t : Tree) (h : IsTree t) (onto : List (Option ℕ)) (stale runs stale'
 
 pub filter_range : (f g : ℕ → Bool) (n a : ℕ) → ((k : ℕ) → a ≤ k → k < a + n → f k ≡ g k) → filter f (range_with_len a n) ≡ filter g (range_with_len a n)
 filter_range f g zero a same = refl
-filter_range f g (suc n) a same = ap₂ (λ (on : Bool) (ys : List ℕ). cond on (a ∷ ys) ys) (same a (omega arith) (omega arith)) (filter_range f g n (a + 1) (λ k low high. same k (omega (arith, low)) (omega (arith, high))))
+filter_range f g (suc n) a same = ap₂ (λ (on : Bool) (ys : List ℕ). cond on (a ∷ ys) ys) (same a (omega arith) (omega arith)) (filter_range f g n (a + 1)
+    (λ k low high. same k (omega (arith, low)) (omega (arith, high))))
 
 -- one number more
-pub listed_step : (f f' : ℕ → Bool) (xs xs' : List ℕ) (i : ℕ) (on : Bool) → ((k : ℕ) → k < i → f' k ≡ f k) → f' i ≡ on → xs ≡ filter f (range_with_len 0 i) → xs' ≡ with_pack xs i on → xs' ≡ filter f' (range_with_len 0 (i + 1))
+pub listed_step : (f f' : ℕ → Bool) (xs xs' : List ℕ) (i : ℕ) (on : Bool) → ((k : ℕ) → k < i → f' k ≡ f k) → f' i ≡ on → xs ≡ filter f (range_with_len 0 i)
+    → xs' ≡ with_pack xs i on → xs' ≡ filter f' (range_with_len 0 (i + 1))
 listed_step f f' xs xs' i on same here e e' =
     e' ∙ ap₂ (λ (ys : List ℕ) (b : Bool). ys ++ cond b (i ∷ []) []) (e ∙ filter_range f f' i 0 (λ k low high. sym (same k (omega (arith, high))))) (sym here)
     ∙ sym (ap (filter f') (range_more i) ∙ filter-append f' (range_with_len 0 i) (i ∷ []))
@@ -85,12 +90,14 @@ few_pass f (suc n) a =
     ]
 
 -- numbers that don't pass
-pub none_listed : (f : ℕ → Bool) (n d : ℕ) → ((k : ℕ) → n ≤ k → k < n + d → f k ≡ false) → (xs : List ℕ) → xs ≡ filter f (range_with_len 0 n) → xs ≡ filter f (range_with_len 0 (n + d))
+pub none_listed : (f : ℕ → Bool) (n d : ℕ) → ((k : ℕ) → n ≤ k → k < n + d → f k ≡ false) → (xs : List ℕ) → xs ≡ filter f (range_with_len 0 n) →
+    xs ≡ filter f (range_with_len 0 (n + d))
 none_listed f n zero off xs e = (let none : n ≡ n + zero = omega arith in e ∙ ap (λ m. filter f (range_with_len 0 m)) none)
 none_listed f n (suc d) off xs e =
     let ih = none_listed f n d (λ k low high. off k low (omega (arith, high))) xs e in
     let more : n + d + 1 ≡ n + suc d = omega arith in
-    listed_step f f xs xs (n + d) false (λ k m. refl) (off (n + d) (omega arith) (omega arith)) ih (sym (append-nil xs)) ∙ ap (λ m. filter f (range_with_len 0 m)) more
+    listed_step f f xs xs (n + d) false (λ k m. refl) (off (n + d) (omega arith) (omega arith)) ih (sym (append-nil xs))
+    ∙ ap (λ m. filter f (range_with_len 0 m)) more
 
 -- a pack that goes on isn't listed
 not_stopped : (r held : Bool) → held ≡ r → (not r && held) ≡ false
@@ -104,7 +111,8 @@ not_begun true true e = refl
 not_begun true false e = sym e
 
 -- packs that aren't marked are passed over
-pub fresh_skip : (t : Tree) (stale : List Bool) (l n m : ℕ) → AreFresh t stale l n → ((k : ℕ) → n ≤ k → k < m → get_or stale (get_or (packs_at t l) k 0) false ≡ false) → AreFresh t stale l m
+pub fresh_skip : (t : Tree) (stale : List Bool) (l n m : ℕ) → AreFresh t stale l n → ((k : ℕ) → n ≤ k → k < m → get_or stale (get_or (packs_at t l) k 0)
+    false ≡ false) → AreFresh t stale l m
 fresh_skip t stale l n m fresh skipped p i (inl high) = fresh p i (inl high)
 fresh_skip t stale l n m fresh skipped p i (inr (k, b, e)) = elim (cases_lt k n) [
   | inl low ↦ fresh p i (inr (k, low, e))
@@ -123,10 +131,12 @@ module _ (t : Tree) (onto : List (Option ℕ)) (stale runs : List Bool) (n m : �
   settled_skip k low b off = settled k (omega (arith, low, after)) b off
 
   pub stops_skip : (xs : List ℕ) → xs ≡ stops_below t onto runs n → xs ≡ stops_below t onto runs m
-  stops_skip xs e = none_listed (λ i. not (first_runs t runs i) && is_held onto i) n (m - n) (λ k low high. not_stopped (first_runs t runs k) (is_held onto k) (go_on k low high)) xs e ∙ ap (λ j. stops_below t onto runs j) total
+  stops_skip xs e = none_listed (λ i. not (first_runs t runs i) && is_held onto i) n (m - n) (λ k low high. not_stopped (first_runs t runs k)
+      (is_held onto k) (go_on k low high)) xs e ∙ ap (λ j. stops_below t onto runs j) total
 
   pub begins_skip : (xs : List ℕ) → xs ≡ begins_below t onto runs n → xs ≡ begins_below t onto runs m
-  begins_skip xs e = none_listed (λ i. first_runs t runs i && not (is_held onto i)) n (m - n) (λ k low high. not_begun (first_runs t runs k) (is_held onto k) (go_on k low high)) xs e ∙ ap (λ j. begins_below t onto runs j) total
+  begins_skip xs e = none_listed (λ i. first_runs t runs i && not (is_held onto i)) n (m - n) (λ k low high. not_begun (first_runs t runs k)
+      (is_held onto k) (go_on k low high)) xs e ∙ ap (λ j. begins_below t onto runs j) total
 
 module _ (t : Tree) (onto : List (Option ℕ)) (runs : List Bool) (changes : ChangeLists) (n : ℕ) (all : n ≡ length (packs_at t 0)) where
   runs_by : (k : ℕ) → k < n → first_runs t runs k ≡ is_running (packs_by t runs) k
@@ -139,10 +149,12 @@ module _ (t : Tree) (onto : List (Option ℕ)) (runs : List Bool) (changes : Cha
   pub changed_are : changes.stopped ≡ stops_below t onto runs n → changes.begun ≡ begins_below t onto runs n → AreChanged (packs_by t runs) onto changes
   changed_are stops begins = record {
     stops = stops
-        ∙ filter_range (λ i. not (first_runs t runs i) && is_held onto i) (λ i. not (is_running (packs_by t runs) i) && is_held onto i) n 0 (λ k low high. ap (λ (b : Bool). not b && is_held onto k) (runs_by k (omega (arith, high))))
+        ∙ filter_range (λ i. not (first_runs t runs i) && is_held onto i) (λ i. not (is_running (packs_by t runs) i) && is_held onto i) n 0
+        (λ k low high. ap (λ (b : Bool). not b && is_held onto k) (runs_by k (omega (arith, high))))
         ∙ ap (λ m. filter (λ i. not (is_running (packs_by t runs) i) && is_held onto i) (range_with_len 0 m)) as_many;
     begins = begins
-        ∙ filter_range (λ i. first_runs t runs i && not (is_held onto i)) (λ i. is_running (packs_by t runs) i && not (is_held onto i)) n 0 (λ k low high. ap (λ (b : Bool). b && not (is_held onto k)) (runs_by k (omega (arith, high))))
+        ∙ filter_range (λ i. first_runs t runs i && not (is_held onto i)) (λ i. is_running (packs_by t runs) i && not (is_held onto i)) n 0
+        (λ k low high. ap (λ (b : Bool). b && not (is_held onto k)) (runs_by k (omega (arith, high))))
         ∙ ap (λ m. filter (λ i. is_running (packs_by t runs) i && not (is_held onto i)) (range_with_len 0 m)) as_many;
   }
 
@@ -159,7 +171,8 @@ held_is onto i false e = elim (cases_Bool (is_held onto i)) [
   | inr no' ↦ no'
 ]
 
-pub settled_after : (p : PlanContents) → IsPlan p → (n : ℕ) (runs stale : List Bool) → SaysRuns p n runs → (onto : List (Option ℕ)) → onto ≡ onto_at (set_boundary p.set.tasks) p.tree n → AreSettledFrom p.tree onto stale runs 0
+pub settled_after : (p : PlanContents) → IsPlan p → (n : ℕ) (runs stale : List Bool) → SaysRuns p n runs → (onto : List (Option ℕ)) →
+    onto ≡ onto_at (set_boundary p.set.tasks) p.tree n → AreSettledFrom p.tree onto stale runs 0
 settled_after p h n runs stale says onto is i low b off =
     let of_leaf = set_boundary p.set.tasks in
     ap (λ os. is_held os i) is

@@ -1,5 +1,6 @@
 -- Processors that aren't told show what they showed.
-use Rattle.std.proofs.Common.{◌≡◌, ◌≢◌, ℕ, zero, suc, ◌+◌, ◌*◌, ◌<◌, ◌≤◌, Bool, true, false, List, [], ◌∷◌, length, get_or, get_or-set_same, get_or-set_other, Option, None, Some, refl, ap, arith, inl, inr, sym, subst, subst₂, ◌∙◌}
+use Rattle.std.proofs.Common.{◌≡◌, ◌≢◌, ℕ, zero, suc, ◌+◌, ◌*◌, ◌<◌, ◌≤◌, Bool, true, false, List, [], ◌∷◌, length, get_or, get_or-set_same}
+use Rattle.std.proofs.Common.{get_or-set_other, Option, None, Some, refl, ap, arith, inl, inr, sym, subst, subst₂, ◌∙◌}
 use Rattle.std.specs.List.{AllByRecursion}
 use Rattle.std.proofs.lemmas.Bool.{cases_lt, le-ltb}
 use Rattle.std.proofs.Math.ListN.{set}
@@ -34,7 +35,8 @@ pub told_none : (places : Placing) (packs told : List ℕ) → AreTold places pa
 told_none places packs told = record { few = omega arith; each = λ k q l. absurd (omega (arith, l)); processors = λ j l. absurd (omega (arith, l)) }
 
 -- a pack without a processor
-pub told_skip : (places : Placing) (packs told : List ℕ) (n count : ℕ) → get_or places.last (get_or packs n 0) None ≡ None → AreTold places packs told n count → AreTold places packs told (n + 1) count
+pub told_skip : (places : Placing) (packs told : List ℕ) (n count : ℕ) → get_or places.last (get_or packs n 0) None ≡ None → AreTold places packs told n
+    count → AreTold places packs told (n + 1) count
 told_skip places packs told n count none t = record {
   few = (let f = t.few in omega (arith, f));
   each = λ k q l at. elim (cases_lt k n) [
@@ -47,7 +49,8 @@ told_skip places packs told n count none t = record {
 }
 
 -- and one with a processor
-pub told_step : (places : Placing) (packs told told' : List ℕ) (n count p : ℕ) → IsNoted places.onto places.last → count < length told → told' ≡ set told count p → get_or places.last (get_or packs n 0) None ≡ Some p →
+pub told_step : (places : Placing) (packs told told' : List ℕ) (n count p : ℕ) → IsNoted places.onto places.last → count < length told →
+    told' ≡ set told count p → get_or places.last (get_or packs n 0) None ≡ Some p →
     AreTold places packs told n count → AreTold places packs told' (n + 1) (count + 1)
 told_step places packs told told' n count p noted room is here t = record {
   few = (let f = t.few in omega (arith, f));
@@ -81,8 +84,10 @@ told_step places packs told told' n count p noted room is here t = record {
     older j l = ap (λ (xs : List ℕ). get_or xs j 0) is ∙ set_other told count p j (λ e. omega (arith, l, e))
 
 -- the next pack is done
-pub told_next : (places : Placing) (packs told told' : List ℕ) (n count count' : ℕ) (o : Option ℕ) → IsNoted places.onto places.last → count < length told → get_or places.last (get_or packs n 0) None ≡ o →
-    ((q : ℕ) → o ≡ Some q → (count' ≡ count + 1) × (told' ≡ set told count q)) → (o ≡ None → (count' ≡ count) × (told' ≡ told)) → AreTold places packs told n count → AreTold places packs told' (n + 1) count'
+pub told_next : (places : Placing) (packs told told' : List ℕ) (n count count' : ℕ) (o : Option ℕ) → IsNoted places.onto places.last → count < length told →
+    get_or places.last (get_or packs n 0) None ≡ o →
+    ((q : ℕ) → o ≡ Some q → (count' ≡ count + 1) × (told' ≡ set told count q)) → (o ≡ None → (count' ≡ count) × (told' ≡ told)) → AreTold places packs told
+    n count → AreTold places packs told' (n + 1) count'
 told_next places packs told told' n count count' None noted room at some none t =
     let (same, still) = none refl in
     subst₂ (λ (m : ℕ) (xs : List ℕ). AreTold places packs xs (n + 1) m) (sym same) (sym still) (told_skip places packs told n count at t)
@@ -93,13 +98,15 @@ told_next places packs told told' n count count' (Some q) noted room at some non
 -- ---- what is shown
 
 -- no task waits
-none_waits : (tasks : List declared.Task) (scale tick : ℕ) → AllByRecursion (λ k. k.offset * scale ≤ tick) tasks → (j : ℕ) → (task_at tasks j).offset * scale ≤ tick
+none_waits : (tasks : List declared.Task) (scale tick : ℕ) → AllByRecursion (λ k. k.offset * scale ≤ tick) tasks → (j : ℕ) →
+    (task_at tasks j).offset * scale ≤ tick
 none_waits [] scale tick all j = omega arith
 none_waits (k ∷ tasks) scale tick all zero = all.0
 none_waits (k ∷ tasks) scale tick all (suc j) = none_waits tasks scale tick all.1 j
 
 -- so each leaf is shown as it is, from there on
-shown_released : (tasks : List declared.Task) (scale tick : ℕ) → AllByRecursion (λ k. k.offset * scale ≤ tick) tasks → (start : ℕ) → tick ≤ start → (l : Leaf) → shown tasks scale start l ≡ l
+shown_released : (tasks : List declared.Task) (scale tick : ℕ) → AllByRecursion (λ k. k.offset * scale ≤ tick) tasks → (start : ℕ) → tick ≤ start →
+    (l : Leaf) → shown tasks scale start l ≡ l
 shown_released tasks scale tick all start late (Task id) =
     let w = none_waits tasks scale tick all id.0 in
     ap (λ (b : Bool). elim b as (λ y. Leaf) [ true ↦ Wait id | false ↦ Task id ]) (le-ltb start ((task_at tasks id.0).offset * scale) (omega (arith, w, late)))
@@ -108,18 +115,21 @@ shown_released tasks scale tick all start late (Idle number) = refl
 shown_released tasks scale tick all start late Empty = refl
 
 -- of members that run by both lists alike the same leaf runs
-leaf_alike : (t : Tree) (runs runs' : List Bool) (ms : List ℕ) → ((k : ℕ) → k < length ms → get_or runs' (get_or ms k 0) false ≡ get_or runs (get_or ms k 0) false) → leaf_by t runs' ms ≡ leaf_by t runs ms
+leaf_alike : (t : Tree) (runs runs' : List Bool) (ms : List ℕ) → ((k : ℕ) → k < length ms → get_or runs' (get_or ms k 0) false ≡ get_or runs (get_or ms k 0)
+    false) → leaf_by t runs' ms ≡ leaf_by t runs ms
 leaf_alike t runs runs' [] same = refl
 leaf_alike t runs runs' (x ∷ xs) same =
     ap (λ (b : Bool). elim b as (λ y. Leaf) [ true ↦ leaf t x | false ↦ leaf_by t runs' xs ]) (same 0 (omega arith))
-    ∙ ap (λ (l : Leaf). elim (get_or runs x false) as (λ y. Leaf) [ true ↦ leaf t x | false ↦ l ]) (leaf_alike t runs runs' xs (λ k l. same (suc k) (omega (arith, l))))
+    ∙ ap (λ (l : Leaf). elim (get_or runs x false) as (λ y. Leaf) [ true ↦ leaf t x | false ↦ l ]) (leaf_alike t runs runs' xs
+    (λ k l. same (suc k) (omega (arith, l))))
 
 module _ (t : Tree) (s s' : ServingContents) (p : ℕ) (is : IsPack t p) (a : AreAt t s) (a' : AreAt t s') where
   pub leaf_stays : get_or s'.serves p None ≡ get_or s.serves p None → leaf_by t s'.runs (members t p) ≡ leaf_by t s.runs (members t p)
   leaf_stays e = leaf_alike t s.runs s'.runs (members t p) (λ k l. a'.at p k is l ∙ ap (λ o. is_at o k) e ∙ sym (a.at p k is l))
 
 module _ (p : PlanContents) (h : IsPlan p) (c c' : CoreContents) (b : IsCoreOf p c) (b' : IsCoreOf p c') (round : IsRoundUpTo p c.tick c'.tick)
-    (runs : List Bool) (long : length c.places.last ≡ length runs) (changes : ChangeLists) (changed : AreChanged runs c.places.onto changes) (placed : c'.places ≡ place runs c.places)
+    (runs : List Bool) (long : length c.places.last ≡ length runs) (changes : ChangeLists) (changed : AreChanged runs c.places.onto changes)
+    (placed : c'.places ≡ place runs c.places)
     (noted : IsNoted c.places.onto c.places.last) (seen : AreSeen p.tree c.serving.serves c'.serving.serves changes)
     (told : List ℕ) (count : ℕ) (tells : AreHeldTold c'.places.onto changes.seen told (length changes.seen) count)
     (q : ℕ) (l : q < p.tree.processors) (not_told : IsTold told count q → ⊥) where
@@ -149,7 +159,8 @@ module _ (p : PlanContents) (h : IsPlan p) (c c' : CoreContents) (b : IsCoreOf p
   on_at' : AreAt p.tree c'.serving
   on_at' = record { within = b'.serving.within; at = b'.serving.at }
 
-  leaf_same : (start : ℕ) → AllReleased p start → start ≤ c.tick → (o : Option ℕ) → get_or c'.places.onto q None ≡ o → ((i : ℕ) → o ≡ Some i → i < length (packs_at p.tree 0)) →
+  leaf_same : (start : ℕ) → AllReleased p start → start ≤ c.tick → (o : Option ℕ) → get_or c'.places.onto q None ≡ o → ((i : ℕ) → o ≡ Some i →
+      i < length (packs_at p.tree 0)) →
       leaf_shown p c'.serving.runs c.tick o ≡ leaf_shown p c.serving.runs start o
   leaf_same start released later None at within = refl
   leaf_same start released later (Some i) at within =

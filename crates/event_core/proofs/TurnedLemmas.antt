@@ -1,5 +1,6 @@
 -- Packs go on serving where some of their members' windows begin.
-use Rattle.std.proofs.Common.{◌≡◌, ◌≢◌, ℕ, ◌+◌, ◌-◌, ◌<◌, ◌≤◌, ◌⊎◌, ltb, Bool, true, false, List, [], length, get_or, Option, Some, None, refl, ap, ap₂, arith, inl, inr, sym, subst, mul-pos, ◌∙◌}
+use Rattle.std.proofs.Common.{◌≡◌, ◌≢◌, ℕ, ◌+◌, ◌-◌, ◌<◌, ◌≤◌, ◌⊎◌, ltb, Bool, true, false, List, [], length, get_or, Option, Some, None, refl, ap}
+use Rattle.std.proofs.Common.{ap₂, arith, inl, inr, sym, subst, mul-pos, ◌∙◌}
 use Rattle.std.proofs.lemmas.Bool.{cases_lt, both_ways}
 use Rattle.std.proofs.lemmas.List.{get_or_past}
 use Rattle.sched_base.specs.declared.candidates.Candidate.{Candidate}
@@ -28,10 +29,13 @@ module _ (t : Tree) (h : IsTree t) (d d' : DueContents) (ends ends' : List ℕ) 
   Begins x = (0 < get_or d'.remains x 0) × (get_or (get_or s'.ready (home t x) []) (place t x) 0 ≡ get_or ends' x 0) × (get_or s'.stale (home t x) false ≡ true)
 
   abbrev pub GoesOn : ℕ → Type 0
-  GoesOn x = (get_or d'.remains x 0 ≡ get_or d.remains x 0) × (get_or (get_or s'.ready (home t x) []) (place t x) 0 ≡ get_or (get_or s.ready (home t x) []) (place t x) 0) × (get_or ends' x 0 ≡ get_or ends x 0)
+  GoesOn x = (get_or d'.remains x 0 ≡ get_or d.remains x 0) × (get_or (get_or s'.ready (home t x) []) (place t x) 0 ≡ get_or (get_or s.ready (home t x) [])
+      (place t x) 0) × (get_or ends' x 0 ≡ get_or ends x 0)
 
-  module _ (each : (x : ℕ) → IsMember t x → Begins x ⊎ GoesOn x) (near : (x : ℕ) → IsMember t x → get_or ends' x 0 < never) (long : (p : ℕ) → length (get_or s'.ready p []) ≡ length (get_or s.ready p []))
-      (unmarked : (p : ℕ) → get_or s'.stale p false ≡ false → get_or s.stale p false ≡ false) (tick : d'.tick ≡ d.tick) (dues : d'.runs ≡ d.runs) (serves : s'.serves ≡ s.serves) (dry : s'.dry ≡ s.dry) (runs : s'.runs ≡ s.runs) where
+  module _ (each : (x : ℕ) → IsMember t x → Begins x ⊎ GoesOn x) (near : (x : ℕ) → IsMember t x → get_or ends' x 0 < never) (long : (p : ℕ) →
+      length (get_or s'.ready p []) ≡ length (get_or s.ready p []))
+      (unmarked : (p : ℕ) → get_or s'.stale p false ≡ false → get_or s.stale p false ≡ false) (tick : d'.tick ≡ d.tick) (dues : d'.runs ≡ d.runs)
+      (serves : s'.serves ≡ s.serves) (dry : s'.dry ≡ s.dry) (runs : s'.runs ≡ s.runs) where
     -- of a pack that isn't marked all members' windows go on
     on : (p k : ℕ) → IsPack t p → get_or s'.stale p false ≡ false → k < length (members t p) → GoesOn (member t p k)
     on p k i off l = (let m = h.members_are p k i l in elim (each (member t p k) m.0) [
@@ -39,21 +43,26 @@ module _ (t : Tree) (h : IsTree t) (d d' : DueContents) (ends ends' : List ℕ) 
       | inl begins ↦ absurd (both_ways (get_or s'.stale p false) off (ap (λ q. get_or s'.stale q false) (sym m.1) ∙ begins.2))
     ])
 
-    at_place : (p k : ℕ) → IsPack t p → k < length (members t p) → get_or (get_or s'.ready p []) k 0 ≡ ready_end (candidate_at (candidates t d'.remains ends' p) k)
+    at_place : (p k : ℕ) → IsPack t p → k < length (members t p) → get_or (get_or s'.ready p []) k 0 ≡ ready_end
+        (candidate_at (candidates t d'.remains ends' p) k)
     at_place p k i l =
         let m = h.members_are p k i l in
         let x = member t p k in
         let is = candidate_is t d'.remains ends' p k l in
-        let here : get_or (get_or s'.ready (home t x) []) (place t x) 0 ≡ get_or (get_or s'.ready p []) k 0 = ap₂ (λ (q j : ℕ). get_or (get_or s'.ready q []) j 0) m.1 m.2 in
-        let there : get_or (get_or s.ready (home t x) []) (place t x) 0 ≡ get_or (get_or s.ready p []) k 0 = ap₂ (λ (q j : ℕ). get_or (get_or s.ready q []) j 0) m.1 m.2 in
+        let here : get_or (get_or s'.ready (home t x) []) (place t x) 0 ≡ get_or (get_or s'.ready p []) k 0 =
+        ap₂ (λ (q j : ℕ). get_or (get_or s'.ready q []) j 0) m.1 m.2 in
+        let there : get_or (get_or s.ready (home t x) []) (place t x) 0 ≡ get_or (get_or s.ready p []) k 0 = ap₂ (λ (q j : ℕ). get_or (get_or s.ready q [])
+        j 0) m.1 m.2 in
         elim (each x m.0) [
           | inl begins ↦
               sym here ∙ begins.1 ∙ ap (λ (c : Candidate). c.end) (sym is)
-              ∙ sym (ready_some (candidate_at (candidates t d'.remains ends' p) k) (let e = ap (λ (c : Candidate). c.remain) is in let b = begins.0 in omega (arith, e, b)))
+              ∙ sym (ready_some (candidate_at (candidates t d'.remains ends' p) k) (let e = ap (λ (c : Candidate). c.remain) is in let b = begins.0 in
+              omega (arith, e, b)))
           | inr goes ↦
               sym here ∙ goes.1 ∙ there
               ∙ (v.picks p i).each k (let e = candidates_long t d.remains ends p in omega (arith, e, l))
-              ∙ ap ready_end (candidate_is t d.remains ends p k l ∙ ap₂ (λ (e r : ℕ). let c : Candidate = record { end = e; remain = r } in c) (sym goes.2) (sym goes.0) ∙ sym is)
+              ∙ ap ready_end (candidate_is t d.remains ends p k l ∙ ap₂ (λ (e r : ℕ). let c : Candidate = record { end = e; remain = r } in c) (sym goes.2)
+              (sym goes.0) ∙ sym is)
         ]
 
     same_dry : (p : ℕ) → IsPack t p → get_or s'.stale p false ≡ false → (o : Option ℕ) → get_or s.serves p None ≡ o → dry_by t d p o ≡ dry_by t d' p o
@@ -71,11 +80,13 @@ module _ (t : Tree) (h : IsTree t) (d d' : DueContents) (ends ends' : List ℕ) 
             omega (arith, e, n));
       };
       within = λ p j i e. v.within p j i (ap (λ (os : List (Option ℕ)). get_or os p None) (sym serves) ∙ e);
-      at = λ p j i l. ap (λ (rs : List Bool). get_or rs (member t p j) false) runs ∙ v.at p j i l ∙ ap (λ (os : List (Option ℕ)). is_at (get_or os p None) j) (sym serves);
+      at = λ p j i l. ap (λ (rs : List Bool). get_or rs (member t p j) false) runs ∙ v.at p j i l ∙ ap (λ (os : List (Option ℕ)). is_at (get_or os p None)
+          j) (sym serves);
       agree = λ x i. ap (λ (rs : List Bool). get_or rs x false) dues ∙ v.agree x i ∙ ap (λ (rs : List Bool). get_or rs x false) (sym runs);
       rest = λ x none. ap (λ (rs : List Bool). get_or rs x false) dues ∙ v.rest x none;
       ticks = subst (λ (xs : List ℕ). AreOfPacks t xs) (sym dry) v.ticks;
-      told = λ p i off. ap (λ (xs : List ℕ). get_or xs p 0) dry ∙ v.told p i (unmarked p off) ∙ same_dry p i off (get_or s.serves p None) refl ∙ ap (λ (os : List (Option ℕ)). dry_by t d' p (get_or os p None)) (sym serves);
+      told = λ p i off. ap (λ (xs : List ℕ). get_or xs p 0) dry ∙ v.told p i (unmarked p off) ∙ same_dry p i off (get_or s.serves p None) refl
+          ∙ ap (λ (os : List (Option ℕ)). dry_by t d' p (get_or os p None)) (sym serves);
       led = subst (λ (rs : List Bool). AreLed t rs) (sym runs) v.led;
       served = λ p i off. subst (λ (rs : List Bool). IsServed t d'.remains ends' rs p) (sym runs) (still_served t h d.remains ends d'.remains ends' s.runs p
           (λ k l. sym (on p k i off l).2) (λ k l. ap (ltb 0) (sym (on p k i off l).0)) (v.served p i (unmarked p off)));
@@ -108,7 +119,8 @@ module _ (p : PlanContents) (h : IsPlan p) where
       omega (arith, w, short, begun, early, fits)
 
   -- where no boundary is at the next unit, the window goes on
-  pub end_goes_on : (c c' : CalendarContents) → BelongsTo p c → BelongsTo p c' → c'.unit ≡ c.next → (x : ℕ) → IsMember p.tree x → c.next ≤ window_end (boundary_of p x) c.unit → boundary_of p x c.next ≡ false → get_or c'.ends x 0 ≡ get_or c.ends x 0
+  pub end_goes_on : (c c' : CalendarContents) → BelongsTo p c → BelongsTo p c' → c'.unit ≡ c.next → (x : ℕ) → IsMember p.tree x →
+      c.next ≤ window_end (boundary_of p x) c.unit → boundary_of p x c.next ≡ false → get_or c'.ends x 0 ≡ get_or c.ends x 0
   end_goes_on c c' b b' unit x i late off =
       let has = member_boundaries p h x i in
       let w = windows_of (boundary_of p x) has in
@@ -117,7 +129,8 @@ module _ (p : PlanContents) (h : IsPlan p) where
       let e = end_is (boundary_of p x) has c.unit in
       let later : c.next < window_end (boundary_of p x) c.unit = elim (cases_lt c.next (window_end (boundary_of p x) c.unit)) [
         | inl l ↦ l
-        | inr m ↦ absurd (let same : c.next ≡ window_end (boundary_of p x) c.unit = omega (arith, m, late) in both_ways (boundary_of p x c.next) off (ap (boundary_of p x) same ∙ e.here))
+        | inr m ↦ absurd (let same : c.next ≡ window_end (boundary_of p x) c.unit = omega (arith, m, late) in both_ways (boundary_of p x c.next) off
+            (ap (boundary_of p x) same ∙ e.here))
       ] in
       (b'.windows x i).end ∙ ap (window_end (boundary_of p x)) unit ∙ w.same_end c.unit c.next (omega (arith, begun, above)) later ∙ sym (b.windows x i).end
 
@@ -137,14 +150,16 @@ module _ (p : PlanContents) (h : IsPlan p) where
 -- ---- what the calendar lists
 
 -- the code's list gave dues to those that are marked, and to no other
-pub listed_refilled : (t : Tree) (begins ends begun remains : List ℕ) (ready : List (List ℕ)) (stale : List Bool) (remains' : List ℕ) (ready' : List (List ℕ)) (stale' due : List Bool) → length due ≡ length t.nodes → AreListed due begun →
+pub listed_refilled : (t : Tree) (begins ends begun remains : List ℕ) (ready : List (List ℕ)) (stale : List Bool) (remains' : List ℕ)
+    (ready' : List (List ℕ)) (stale' due : List Bool) → length due ≡ length t.nodes → AreListed due begun →
     ((x : ℕ) → x < length t.nodes → get_or due x false ≡ true → is_pack (kind_at t x) ≡ false) →
     AreBegun t begins ends begun remains ready stale remains' ready' stale' (length begun) → AreRefilled t begins ends due remains remains' (length t.nodes)
 listed_refilled t begins ends begun remains ready stale remains' ready' stale' due long listed member a = record {
   same = a.same;
   filled = λ x l on. (let at = listed.all x on in a.filled at.0 x at.1 at.2 (l, member x l on));
   kept = λ x l off. a.kept x (not_listed x off);
-  above = λ x past. a.kept x (not_listed x (get_or_past due x false (elim (cases_lt x (length t.nodes)) [ inl l ↦ absurd (past l) | inr m ↦ omega (arith, m, long) ])));
+  above = λ x past. a.kept x (not_listed x (get_or_past due x false (elim (cases_lt x (length t.nodes))
+      [ inl l ↦ absurd (past l) | inr m ↦ omega (arith, m, long) ])));
 }
   where
     not_listed : (x : ℕ) → get_or due x false ≡ false → (j : ℕ) → j < length begun → get_or begun j 0 ≢ x

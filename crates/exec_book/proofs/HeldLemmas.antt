@@ -33,13 +33,15 @@ pub record LaneOut {J : Type 0} (p : PlanContents) (s : State) (rounds : RoundsC
   pub in_table : lane < length rounds.table.lanes
   pub round : posted_at s lane < rounds_in rounds.table.lanes
   pub out_row : (row : Row) → RowAt rounds.table.lanes lane (posted_at s lane) row → OutRow (plan_rows p) s lane row
-  pub away : (row : Row) → RowAt rounds.table.lanes lane (posted_at s lane) row → (t : ℕ) → is_of_task t row.leaf ≡ true → slice_get store.jobs.places t ≡ Some None
+  pub away : (row : Row) → RowAt rounds.table.lanes lane (posted_at s lane) row → (t : ℕ) → is_of_task t row.leaf ≡ true → slice_get store.jobs.places
+      t ≡ Some None
   -- the posts are fewer than the rows
   pub few : sum (counts_of s.lanes) < row_limit
 
 pub lane_out : {J : Type 0} (id used : J → ℕ) (made : J → Made) (all_made : List Made) (p : PlanContents) (count window : ℕ) (s : State)
     (rounds : RoundsContents) (store : JobStoreContents J) (side lane : ℕ)
-    → Keeps id used made all_made p count window s rounds store side → IsPlan p → IsReached (plan_rows p) window s → IsOut s lane → LaneOut p s rounds store lane
+    → Keeps id used made all_made p count window s rounds store side → IsPlan p → IsReached (plan_rows p) window s → IsOut s lane → LaneOut p s rounds store
+    lane
 lane_out id used made all_made p count window s rounds store side lane keeps lawful reached out =
     let all = plan_rows p in
     let first : AreFirstRounds rounds.table.lanes all = first_rounds p lawful rounds keeps.rows.kept.rounds in
@@ -55,12 +57,14 @@ lane_out id used made all_made p count window s rounds store side lane keeps law
       in_table = omega (arith, within, long, wide);
       round = keeps.rows.kept.out lane out;
       out_row = row_out;
-      away = λ row at t on. away_for id used made all_made all (length p.set.tasks) window s store lane row (plan_table p lawful) reached keeps.jobs (row_out row at) within t on;
+      away = λ row at t on. away_for id used made all_made all (length p.set.tasks) window s store lane row (plan_table p lawful) reached keeps.jobs
+          (row_out row at) within t on;
       few =
           let (row, here) = reached.out_is_row lane out in
           let inside = (row_within all (plan_table p lawful) lane (posted_at s lane) row here).1 in
           let sum_below = posts_below s.lanes (rounds_in all) lane (λ q. reached.posted_are_rows q) within inside in
-          let product : rounds_in all * length s.lanes ≡ rounds_of p * p.tree.processors = ap (λ n. n * length s.lanes) (plan_count p lawful) ∙ ap (λ n. rounds_of p * n) (long ∙ plan_lanes p lawful) in
+          let product : rounds_in all * length s.lanes ≡ rounds_of p * p.tree.processors = ap (λ n. n * length s.lanes) (plan_count p lawful)
+          ∙ ap (λ n. rounds_of p * n) (long ∙ plan_lanes p lawful) in
           let rows = keeps.rows.few in
           omega (arith, sum_below, product, rows);
     }

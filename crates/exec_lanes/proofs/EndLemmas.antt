@@ -1,5 +1,6 @@
 -- The counts of posted rows, and those of faults once each lane's failure is noted.
-use Rattle.std.proofs.Common.{◌≡◌, ◌≢◌, ◌⊎◌, ℕ, suc, ◌+◌, ◌<◌, ◌≤◌, true, false, List, [], ◌∷◌, get_or, set, Option, Some, None, length, refl, sym, ap, ◌∙◌, subst, arith, inl, inr}
+use Rattle.std.proofs.Common.{◌≡◌, ◌≢◌, ◌⊎◌, ℕ, suc, ◌+◌, ◌<◌, ◌≤◌, true, false, List, [], ◌∷◌, get_or, set, Option, Some, None, length, refl, sym}
+use Rattle.std.proofs.Common.{ap, ◌∙◌, subst, arith, inl, inr}
 use Rattle.std.specs.Prelude.{slice_index, slice_set, IfNone}
 use Rattle.std.specs.Option.{is_some}
 use Rattle.std.proofs.lemmas.Bool.{cases_eq}
@@ -35,7 +36,11 @@ pub posted_more : (lanes : List LaneContents) (posted : List ℕ) (p n : ℕ) �
     ((q : ℕ) → q < p → slice_index posted q ≡ (lane_in lanes q).seat.posted) → n ≡ (lane_in lanes p).seat.posted →
     (q : ℕ) → q < p + 1 → slice_index (set posted p n) q ≡ (lane_in lanes q).seat.posted
 posted_more lanes posted p n within long before here q below = elim (cases_eq q p) [
-  | inl same ↦ subst (λ k. slice_index (set posted p n) k ≡ (lane_in lanes k).seat.posted) (sym same) (get_or-set_same posted p n 0 (omega (arith, within, long)) ∙ here)
+  | inl same ↦ subst (λ k. slice_index (set posted p n) k ≡ (lane_in lanes k).seat.posted) (sym same) (get_or-set_same posted p n 0 (omega (
+    arith,
+    within,
+    long,
+  )) ∙ here)
   | inr other ↦ get_or-set_other posted p q n 0 other ∙ before q (omega (arith, below, other))
 ]
 
@@ -65,7 +70,8 @@ none_is_no_job q n same = cc
 pub keeps_none : (lanes : List LaneContents) (counts : List ℕ) → KeepsCounts lanes 0 counts counts
 keeps_none lanes counts = record { later = λ t. omega arith; risen = λ p t r n below failed. absurd (omega (arith, below)); same = λ t none. refl }
 
-module _ (lanes : List LaneContents) (k : ℕ) (within : k < length lanes) (before now next : List ℕ) (long : length now ≡ length before) (keeps : KeepsCounts lanes k before now) where
+module _ (lanes : List LaneContents) (k : ℕ) (within : k < length lanes) (before now next : List ℕ) (long : length now ≡ length before)
+    (keeps : KeepsCounts lanes k before now) where
   -- no job failed on the next lane
   keeps_same : ((r : Row) (n : ℕ) → (lane_in lanes k).cause ≡ Some (cause.Job r n) → ⊥) → next ≡ now → KeepsCounts lanes (k + 1) before next
   keeps_same no_job same = subst (KeepsCounts lanes (k + 1) before) (sym same) (record {
@@ -78,11 +84,14 @@ module _ (lanes : List LaneContents) (k : ℕ) (within : k < length lanes) (befo
   })
 
   -- a job failed on the next lane
-  keeps_job : (r : Row) (n : ℕ) → (lane_in lanes k).cause ≡ Some (cause.Job r n) → (rose : JobRose before r n) → next ≡ slice_set now rose.task.0 n → KeepsCounts lanes (k + 1) before next
+  keeps_job : (r : Row) (n : ℕ) → (lane_in lanes k).cause ≡ Some (cause.Job r n) → (rose : JobRose before r n) → next ≡ slice_set now rose.task.0 n →
+      KeepsCounts lanes (k + 1) before next
   keeps_job r n is rose written =
       let t0 = rose.task.0 in
-      let here : slice_index next t0 ≡ n = ap (λ xs. slice_index xs t0) written ∙ get_or-set_same now t0 n 0 (let given = rose.given in omega (arith, given, long)) in
-      let other : (t : ℕ) → t ≢ t0 → slice_index next t ≡ slice_index now t = λ t away. ap (λ xs. slice_index xs t) written ∙ get_or-set_other now t0 t n 0 away in
+      let here : slice_index next t0 ≡ n = ap (λ xs. slice_index xs t0) written ∙ get_or-set_same now t0 n 0 (let given = rose.given in
+      omega (arith, given, long)) in
+      let other : (t : ℕ) → t ≢ t0 → slice_index next t ≡ slice_index now t = λ t away. ap (λ xs. slice_index xs t) written ∙ get_or-set_other now t0 t n 0
+      away in
       let here_risen : HasRisen (slice_index before t0) (slice_index next t0) = subst (HasRisen (slice_index before t0)) (sym here) rose.risen in
       let failed_here : JobFailed lanes k t0 r n = record { lane = within; cause = is; of_task = rose.of_task } in
       record {
@@ -107,32 +116,40 @@ module _ (lanes : List LaneContents) (k : ℕ) (within : k < length lanes) (befo
         ];
       }
 
-  keeps_cases : (o : Option Cause) → (lane_in lanes k).cause ≡ o → JobsRose before lanes → ((r : Row) (n : ℕ) (task : TaskId) → o ≡ Some (cause.Job r n) → r.leaf ≡ Task task → next ≡ slice_set now task.0 n)
+  keeps_cases : (o : Option Cause) → (lane_in lanes k).cause ≡ o → JobsRose before lanes → ((r : Row) (n : ℕ) (task : TaskId) → o ≡ Some (cause.Job r n) →
+      r.leaf ≡ Task task → next ≡ slice_set now task.0 n)
       → (((r : Row) (n : ℕ) (task : TaskId) → o ≡ Some (cause.Job r n) → r.leaf ≡ Task task → ⊥) → next ≡ now) → KeepsCounts lanes (k + 1) before next
   keeps_cases None is rose job none = keeps_same (λ r n same. none_is_no_job r n (sym is ∙ same)) (none (λ r n task same leaf. none_is_no_job r n same))
-  keeps_cases (Some (cause.Gate q)) is rose job none = keeps_same (λ r n same. gate_is_no_job q r n (sym is ∙ same)) (none (λ r n task same leaf. gate_is_no_job q r n same))
+  keeps_cases (Some (cause.Gate q)) is rose job none = keeps_same (λ r n same. gate_is_no_job q r n (sym is ∙ same))
+      (none (λ r n task same leaf. gate_is_no_job q r n same))
   keeps_cases (Some (cause.Job q m)) is rose job none = let risen = rose k q m within is in keeps_job q m is risen (job q m risen.task refl risen.of_task)
 
   -- the next lane's failure is noted
-  pub keeps_next : JobsRose before lanes → ((r : Row) (n : ℕ) (task : TaskId) → (lane_in lanes k).cause ≡ Some (cause.Job r n) → r.leaf ≡ Task task → next ≡ slice_set now task.0 n)
-      → (((r : Row) (n : ℕ) (task : TaskId) → (lane_in lanes k).cause ≡ Some (cause.Job r n) → r.leaf ≡ Task task → ⊥) → next ≡ now) → KeepsCounts lanes (k + 1) before next
+  pub keeps_next : JobsRose before lanes → ((r : Row) (n : ℕ) (task : TaskId) → (lane_in lanes k).cause ≡ Some (cause.Job r n) → r.leaf ≡ Task task →
+      next ≡ slice_set now task.0 n)
+      → (((r : Row) (n : ℕ) (task : TaskId) → (lane_in lanes k).cause ≡ Some (cause.Job r n) → r.leaf ≡ Task task → ⊥) → next ≡ now) →
+      KeepsCounts lanes (k + 1) before next
   keeps_next rose job none = keeps_cases (lane_in lanes k).cause refl rose job none
 
 -- the task of a job that failed has a count
-pub job_within : (counts : List ℕ) (lanes : List LaneContents) (k : ℕ) (r : Row) (n : ℕ) (task : TaskId) → JobsRose counts lanes → k < length lanes → (lane_in lanes k).cause ≡ Some (cause.Job r n) → r.leaf ≡ Task task → task.0 < length counts
+pub job_within : (counts : List ℕ) (lanes : List LaneContents) (k : ℕ) (r : Row) (n : ℕ) (task : TaskId) → JobsRose counts lanes → k < length lanes →
+    (lane_in lanes k).cause ≡ Some (cause.Job r n) → r.leaf ≡ Task task → task.0 < length counts
 job_within counts lanes k r n task rose within is leaf =
     let risen = rose k r n within is in
     let same = same_task risen.task task (sym risen.of_task ∙ leaf) in
     subst (λ (x : TaskId). x.0 < length counts) same risen.given
 
 -- the jobs that failed on lanes that were served have counts that rose
-pub jobs_rose : (rows : List (List Row)) (counts : List ℕ) (before now : List LaneContents) → length now ≡ length before → AllServed rows counts before now → JobsRose counts now
+pub jobs_rose : (rows : List (List Row)) (counts : List ℕ) (before now : List LaneContents) → length now ≡ length before → AllServed rows counts before now
+    → JobsRose counts now
 jobs_rose rows counts before now long served p r n within is =
     let lane = served p (omega (arith, within, long)) in
-    let caused : IsCaused (Some (cause.Job r n)) (lane_in before p).faults (lane_in now p).faults counts = subst (λ o. IsCaused o (lane_in before p).faults (lane_in now p).faults counts) is lane.caused in
+    let caused : IsCaused (Some (cause.Job r n)) (lane_in before p).faults (lane_in now p).faults counts = subst (λ o. IsCaused o (lane_in before p).faults
+    (lane_in now p).faults counts) is lane.caused in
     caused.1
 
-no_cause : (lanes : List LaneContents) (counts : List ℕ) → NoGateBefore lanes (length lanes) → NoJobBefore lanes (length lanes) → JobsRose counts lanes → (p : ℕ) → p < length lanes → (o : Option Cause) → (lane_in lanes p).cause ≡ o → o ≡ None
+no_cause : (lanes : List LaneContents) (counts : List ℕ) → NoGateBefore lanes (length lanes) → NoJobBefore lanes (length lanes) → JobsRose counts lanes →
+    (p : ℕ) → p < length lanes → (o : Option Cause) → (lane_in lanes p).cause ≡ o → o ≡ None
 no_cause lanes counts no_gate no_job rose p within None is = refl
 no_cause lanes counts no_gate no_job rose p within (Some (cause.Gate r)) is = absurd (no_gate p r within (within, is))
 no_cause lanes counts no_gate no_job rose p within (Some (cause.Job r n)) is =
@@ -140,7 +157,8 @@ no_cause lanes counts no_gate no_job rose p within (Some (cause.Job r n)) is =
     absurd (no_job p risen.task.0 r n within (record { lane = within; cause = is; of_task = risen.of_task }))
 
 -- where no gate and no job failed, nothing did
-pub none_failed : (lanes : List LaneContents) (counts : List ℕ) → NoGateBefore lanes (length lanes) → NoJobBefore lanes (length lanes) → JobsRose counts lanes → NoneFailed lanes
+pub none_failed : (lanes : List LaneContents) (counts : List ℕ) → NoGateBefore lanes (length lanes) → NoJobBefore lanes (length lanes) →
+    JobsRose counts lanes → NoneFailed lanes
 none_failed lanes counts no_gate no_job rose p within = no_cause lanes counts no_gate no_job rose p within (lane_in lanes p).cause refl
 
 pub if_none : {X A B : Type 0} (o : Option X) → (A → B) → IfNone o A → IfNone o B
@@ -148,6 +166,7 @@ if_none None f h = f h
 if_none (Some x) f h = tt
 
 -- where nothing failed, the passes went on until all was posted
-pub all_at_end : (lanes : List LaneContents) (rounds : ℕ) → NoneFailed lanes → (NoneFailed lanes × AllAt rounds lanes) ⊎ ((p : ℕ) × (p < length lanes) × ((lane_in lanes p).cause ≢ None)) → AllAt rounds lanes
+pub all_at_end : (lanes : List LaneContents) (rounds : ℕ) → NoneFailed lanes → (NoneFailed lanes × AllAt rounds lanes) ⊎ ((p : ℕ) × (p < length lanes)
+    × ((lane_in lanes p).cause ≢ None)) → AllAt rounds lanes
 all_at_end lanes rounds none (inl done) = done.1
 all_at_end lanes rounds none (inr some) = absurd (some.2 (none some.0 some.1))

@@ -1,5 +1,6 @@
 -- The rows that a lane's gate runs, one after another.
-use Rattle.std.proofs.Common.{◌≡◌, ℕ, zero, suc, ◌+◌, ◌-◌, ◌≤◌, List, [], ◌∷◌, ◌++◌, Option, Some, None, take, drop, refl, sym, ap, ◌∙◌, subst, arith, append_assoc, append-nil}
+use Rattle.std.proofs.Common.{◌≡◌, ℕ, zero, suc, ◌+◌, ◌-◌, ◌≤◌, List, [], ◌∷◌, ◌++◌, Option, Some, None, take, drop, refl, sym, ap, ◌∙◌, subst, arith}
+use Rattle.std.proofs.Common.{append_assoc, append-nil}
 use Rattle.std.proofs.Math.Seq.{take-add}
 use Rattle.std.proofs.lemmas.List.{drop-drop}
 use Rattle.std.specs.Prelude.{slice_get, slice_range}
@@ -45,56 +46,67 @@ served_none rows counts lane fresh = record {
   lane = refl;
   count = omega arith;
   ran = sym ((λ i. grown lane.ran (slice_range (lane_of rows lane.seat.lane) lane.seat.posted lane.seat.posted ++ unposted (fresh i)))
-      ∙ ap (grown lane.ran) (append-nil (slice_range (lane_of rows lane.seat.lane) lane.seat.posted lane.seat.posted) ∙ range_none (lane_of rows lane.seat.lane) lane.seat.posted) ∙ grown-nil lane.ran);
+      ∙ ap (grown lane.ran) (append-nil (slice_range (lane_of rows lane.seat.lane) lane.seat.posted lane.seat.posted)
+      ∙ range_none (lane_of rows lane.seat.lane) lane.seat.posted) ∙ grown-nil lane.ran);
   caused = subst (λ o. IsCaused o lane.faults lane.faults counts) (sym fresh) refl;
   next = subst (λ o. FailsNext rows lane.seat o) (sym fresh) tt;
 }
 
 -- a lane that was served without a failure is served on
-pub served_on : (rows : List (List Row)) (counts : List ℕ) (a b c : LaneContents) → b.cause ≡ None → Served rows counts a b → Served rows counts b c → Served rows counts a c
+pub served_on : (rows : List (List Row)) (counts : List ℕ) (a b c : LaneContents) → b.cause ≡ None → Served rows counts a b → Served rows counts b c →
+    Served rows counts a c
 served_on rows counts a b c fresh first second =
     let own = lane_of rows a.seat.lane in
     let x = a.seat.posted in
     let y = b.seat.posted in
     let z = c.seat.posted in
     let extra = unposted c.cause in
-    let before : b.ran ≡ grown a.ran (slice_range own x y) = first.ran ∙ (λ i. grown a.ran (slice_range own x y ++ unposted (fresh i))) ∙ ap (grown a.ran) (append-nil (slice_range own x y)) in
-    let after : c.ran ≡ grown b.ran (slice_range own y z ++ extra) = second.ran ∙ ap (λ p. grown b.ran (slice_range (lane_of rows p) y z ++ extra)) first.lane in
+    let before : b.ran ≡ grown a.ran (slice_range own x y) = first.ran ∙ (λ i. grown a.ran (slice_range own x y ++ unposted (fresh i))) ∙ ap (grown a.ran)
+    (append-nil (slice_range own x y)) in
+    let after : c.ran ≡ grown b.ran (slice_range own y z ++ extra) = second.ran ∙ ap (λ p. grown b.ran (slice_range (lane_of rows p) y z ++ extra))
+    first.lane in
     let same : b.faults ≡ a.faults = subst (λ o. IsCaused o a.faults b.faults counts) fresh first.caused in
     record {
       lane = second.lane ∙ first.lane;
       count = (let p = first.count in let q = second.count in omega (arith, p, q));
       ran = after ∙ ap (λ r. grown r (slice_range own y z ++ extra)) before ∙ grown-grown a.ran (slice_range own x y) (slice_range own y z ++ extra)
-          ∙ ap (grown a.ran) (sym (append_assoc (slice_range own x y) (slice_range own y z) extra) ∙ ap (λ xs. xs ++ extra) (range_join own x y z first.count second.count));
+          ∙ ap (grown a.ran) (sym (append_assoc (slice_range own x y) (slice_range own y z) extra) ∙ ap (λ xs. xs ++ extra)
+          (range_join own x y z first.count second.count));
       caused = subst (λ n. IsCaused c.cause n c.faults counts) same second.caused;
       next = second.next;
     }
 
 -- a row was run and posted
-pub served_row : (rows : List (List Row)) (counts : List ℕ) (lane : LaneContents) (row : Row) (ran : Option (List Row)) (faults : ℕ) (o : Option Cause) → RowAt rows lane.seat.lane lane.seat.posted row → ran ≡ grown lane.ran (row ∷ []) → faults ≡ lane.faults → o ≡ None
+pub served_row : (rows : List (List Row)) (counts : List ℕ) (lane : LaneContents) (row : Row) (ran : Option (List Row)) (faults : ℕ) (o : Option Cause) →
+    RowAt rows lane.seat.lane lane.seat.posted row → ran ≡ grown lane.ran (row ∷ []) → faults ≡ lane.faults → o ≡ None
     → Served rows counts lane (record { ran = ran; faults = faults; seat = record lane.seat { posted = lane.seat.posted + 1 }; cause = o })
 served_row rows counts lane row ran faults o at grew same none = record {
   lane = refl;
   count = omega arith;
   ran = grew
-      ∙ ap (grown lane.ran) (sym ((λ i. slice_range (lane_of rows lane.seat.lane) lane.seat.posted (lane.seat.posted + 1) ++ unposted (none i)) ∙ append-nil (slice_range (lane_of rows lane.seat.lane) lane.seat.posted (lane.seat.posted + 1)) ∙ range_one (lane_of rows lane.seat.lane) lane.seat.posted row at));
+      ∙ ap (grown lane.ran) (sym ((λ i. slice_range (lane_of rows lane.seat.lane) lane.seat.posted (lane.seat.posted + 1) ++ unposted (none i))
+      ∙ append-nil (slice_range (lane_of rows lane.seat.lane) lane.seat.posted (lane.seat.posted + 1)) ∙ range_one (lane_of rows lane.seat.lane)
+      lane.seat.posted row at));
   caused = subst (λ x. IsCaused x lane.faults faults counts) (sym none) same;
   next = subst (λ x. FailsNext rows (record lane.seat { posted = lane.seat.posted + 1 }) x) (sym none) tt;
 }
 
 -- the gate failed at a row
-pub served_to_gate : (rows : List (List Row)) (counts : List ℕ) (lane : LaneContents) (row : Row) (ran : Option (List Row)) (faults : ℕ) → RowAt rows lane.seat.lane lane.seat.posted row → ran ≡ lane.ran → HasRisen lane.faults faults
+pub served_to_gate : (rows : List (List Row)) (counts : List ℕ) (lane : LaneContents) (row : Row) (ran : Option (List Row)) (faults : ℕ) →
+    RowAt rows lane.seat.lane lane.seat.posted row → ran ≡ lane.ran → HasRisen lane.faults faults
     → Served rows counts lane (record { ran = ran; faults = faults; seat = lane.seat; cause = Some (cause.Gate row) })
 served_to_gate rows counts lane row ran faults at same risen = record {
   lane = refl;
   count = omega arith;
-  ran = same ∙ sym (ap (grown lane.ran) (append-nil (slice_range (lane_of rows lane.seat.lane) lane.seat.posted lane.seat.posted) ∙ range_none (lane_of rows lane.seat.lane) lane.seat.posted) ∙ grown-nil lane.ran);
+  ran = same ∙ sym (ap (grown lane.ran) (append-nil (slice_range (lane_of rows lane.seat.lane) lane.seat.posted lane.seat.posted)
+      ∙ range_none (lane_of rows lane.seat.lane) lane.seat.posted) ∙ grown-nil lane.ran);
   caused = risen;
   next = at;
 }
 
 -- the job failed at a row that the gate had run
-pub served_to_job : (rows : List (List Row)) (counts : List ℕ) (lane : LaneContents) (row : Row) (n : ℕ) (ran : Option (List Row)) (faults : ℕ) → RowAt rows lane.seat.lane lane.seat.posted row → ran ≡ grown lane.ran (row ∷ []) → faults ≡ lane.faults → JobRose counts row n
+pub served_to_job : (rows : List (List Row)) (counts : List ℕ) (lane : LaneContents) (row : Row) (n : ℕ) (ran : Option (List Row)) (faults : ℕ) →
+    RowAt rows lane.seat.lane lane.seat.posted row → ran ≡ grown lane.ran (row ∷ []) → faults ≡ lane.faults → JobRose counts row n
     → Served rows counts lane (record { ran = ran; faults = faults; seat = lane.seat; cause = Some (cause.Job row n) })
 served_to_job rows counts lane row n ran faults at grew same rose = record {
   lane = refl;

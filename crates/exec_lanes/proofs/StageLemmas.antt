@@ -14,7 +14,8 @@ same_some x y same = cc
 -- a kit holds one gate
 pub same_gate : {G : Type 0} (kits : List (Kit G)) (p : ℕ) (a b : G) → KitAt kits p a → KitAt kits p b → a ≡ b
 same_gate {G} kits p a b here there =
-    let kit : record { gate = Some a } ≡ record { gate = Some b } = same_some {X = Kit G} (record { gate = Some a }) (record { gate = Some b }) (sym here ∙ there) in
+    let kit : record { gate = Some a } ≡ record { gate = Some b } = same_some {X = Kit G} (record { gate = Some a }) (record { gate = Some b }) (sym here
+    ∙ there) in
     same_some a b (ap (λ (k : Kit G). k.gate) kit)
 
 -- one thing is in a place
@@ -30,7 +31,8 @@ pub same_seat : (seats : List (Option Seat)) (p : ℕ) (a b : Seat) → slice_ge
 same_seat seats p a b here there = same_some a b (same_some {X = Option Seat} (Some a) (Some b) (sym here ∙ there))
 
 -- the next lane after those that were given
-pub next_lane : (lanes given rest : List LaneContents) (lane : LaneContents) → lanes ≡ given ++ (lane ∷ rest) → (length given < length lanes) × (lane_in lanes (length given) ≡ lane)
+pub next_lane : (lanes given rest : List LaneContents) (lane : LaneContents) → lanes ≡ given ++ (lane ∷ rest) → (length given < length lanes)
+    × (lane_in lanes (length given) ≡ lane)
 next_lane lanes given rest lane whole =
     let long = ap length whole in
     (omega (arith, long, length-append given (lane ∷ rest)), ap (λ xs. lane_in xs (length given)) whole ∙ get_or-append_seam given lane rest no_lane)

@@ -18,7 +18,8 @@ same_node x y kind rate home place members dual =
     λ i. record { kind = kind i; rate = rate i; home = home i; place = place i; members = members i; dual = dual i }
 
 -- trees of the same size with the same nodes are the same
-pub same_tree : (a b : Tree) → a.processors ≡ b.processors → a.scale ≡ b.scale → a.levels ≡ b.levels → length a.nodes ≡ length b.nodes → ((n : ℕ) → n < length a.nodes → node_in a n ≡ node_in b n) → a ≡ b
+pub same_tree : (a b : Tree) → a.processors ≡ b.processors → a.scale ≡ b.scale → a.levels ≡ b.levels → length a.nodes ≡ length b.nodes →
+    ((n : ℕ) → n < length a.nodes → node_in a n ≡ node_in b n) → a ≡ b
 same_tree a b processors scale levels many each =
     let nodes : a.nodes ≡ b.nodes = ext_get_or no_node a.nodes b.nodes many each in
     λ i. record { processors = processors i; scale = scale i; levels = levels i; nodes = nodes i }

@@ -11,7 +11,8 @@ use Rattle.exec_lanes.specs.declared.kits.Kit.{Kit}
 use Rattle.exec_workers.specs.Runs.{Outcome}
 
 -- where memory was refused the gates and the jobs are as they were
-pub outcome_refused : {G J : Type 0} (ran : G → Option (List Row)) (gate_faults : G → ℕ) (id used : J → ℕ) (made : J → Made) (job_faults : J → ℕ) (p : PlanContents) (window : ℕ) (kits : List (Kit G)) (places places' : List (Option J)) (result : Result Executed ExecFault)
+pub outcome_refused : {G J : Type 0} (ran : G → Option (List Row)) (gate_faults : G → ℕ) (id used : J → ℕ) (made : J → Made) (job_faults : J → ℕ)
+    (p : PlanContents) (window : ℕ) (kits : List (Kit G)) (places places' : List (Option J)) (result : Result Executed ExecFault)
     → IsErrAnd result (λ e. e ≡ fault.NoMemory) → places' ≡ places → Outcome ran gate_faults id used made job_faults p window kits kits places places' result
 outcome_refused ran gate_faults id used made job_faults p window kits places places' (Ok e) refused same = absurd refused
 outcome_refused ran gate_faults id used made job_faults p window kits places places' (Err (fault.Gate q r n)) refused same = absurd (let e = refused in cc)

@@ -1,5 +1,6 @@
 -- An idle leaf has always something left, and its window ends behind all others.
-use Rattle.std.proofs.Common.{Bool, List, None, Option, Some, ap, arith, false, inl, inr, length, mul-le-mul_left, refl, subst, suc, sym, true, zero, ℕ, ◌*◌, ◌+◌, ◌-◌, ◌/◌, ◌<◌, ◌^◌, ◌∙◌, ◌≡◌, ◌≤◌, ◌⊎◌}
+use Rattle.std.proofs.Common.{Bool, List, None, Option, Some, ap, arith, false, inl, inr, length, mul-le-mul_left, refl, subst, suc, sym, true, zero}
+use Rattle.std.proofs.Common.{ℕ, ◌*◌, ◌+◌, ◌-◌, ◌/◌, ◌<◌, ◌^◌, ◌∙◌, ◌≡◌, ◌≤◌, ◌⊎◌}
 use Rattle.std.proofs.Math.Nat.{div-mul-le_self}
 use Rattle.std.proofs.lemmas.Bool.{both_ways, cases_Bool, cases_eq, cases_lt}
 use Rattle.std.specs.List.{AllByRecursion}
@@ -42,7 +43,8 @@ pub record Recurs (tasks : List declared.Task) (t : Tree) (units start : ℕ) : 
   pub released : AllByRecursion (λ k. k.offset ≤ start / t.scale) tasks
   pub whole : PeriodsDivide tasks units
   pub apart : IdlesApart t
-  pub left : (x : ℕ) → IsMember t x → is_idle (leaf t x) ≡ false → left_at (set_boundary tasks) t (start + units * t.scale) x ≡ left_at (set_boundary tasks) t start x
+  pub left : (x : ℕ) → IsMember t x → is_idle (leaf t x) ≡ false → left_at (set_boundary tasks) t (start + units * t.scale) x ≡ left_at (set_boundary tasks)
+      t start x
 
 -- an idle leaf is a leaf
 idle_leaf : (m : Kind) → is_idle (leaf_of m) ≡ true → is_leaf m ≡ true
@@ -128,7 +130,8 @@ module _ (tasks : List declared.Task) (t : Tree) (units start : ℕ) (r : Recurs
       ]
 
   -- a member is an idle leaf, or another node, which is busy
-  pub idle_or_busy : (x : ℕ) → IsMember t x → (IsLeaf t x × (is_idle (leaf t x) ≡ true)) ⊎ ((is_idle (leaf t x) ≡ false) × IsBusy tasks t units (start / t.scale) x)
+  pub idle_or_busy : (x : ℕ) → IsMember t x → (IsLeaf t x × (is_idle (leaf t x) ≡ true)) ⊎ ((is_idle (leaf t x) ≡ false) × IsBusy tasks t units
+      (start / t.scale) x)
   idle_or_busy x i = elim (cases_Bool (is_idle (leaf t x))) [
     | inl idle ↦ inl ((i.0, idle_leaf (kind_at t x) idle), idle)
     | inr other ↦ elim (member_is tasks r.each t r.tree r.holds units (start / t.scale) r.some r.released r.whole r.apart x i) [
@@ -138,7 +141,8 @@ module _ (tasks : List declared.Task) (t : Tree) (units start : ℕ) (r : Recurs
   ]
 
   -- the windows of busy members end soon
-  pub busy_ends : (x : ℕ) → IsMember t x → IsBusy tasks t units (start / t.scale) x → (m u : ℕ) → start / t.scale ≤ m → u ≤ m → window_end (bound x) u ≤ m + units
+  pub busy_ends : (x : ℕ) → IsMember t x → IsBusy tasks t units (start / t.scale) x → (m u : ℕ) → start / t.scale ≤ m → u ≤ m →
+      window_end (bound x) u ≤ m + units
   busy_ends x i busy = ends_within (bound x) (member_has (set_boundary tasks) t r.tree leaves_of x i) units (start / t.scale) busy.within
 
   -- a unit by which a pack ran no more than its members' rates, and no window of its members ends before
@@ -150,14 +154,19 @@ module _ (tasks : List declared.Task) (t : Tree) (units start : ℕ) (r : Recurs
       h : Serves (server (set_boundary tasks) t p)
       h = server_serves (set_boundary tasks) t r.tree leaves_of p i
 
-      go : (o : Option ℕ) → dual t p ≡ o → (end : ℕ) × (end ≤ m + units) × ((k : ℕ) → k < length (members t p) → end ≤ window_end (bound (member t p k)) (n / t.scale))
+      go : (o : Option ℕ) → dual t p ≡ o → (end : ℕ) × (end ≤ m + units) × ((k : ℕ) → k < length (members t p) → end ≤ window_end (bound (member t p k))
+          (n / t.scale))
           × (ticks (run p) (suc n) ≤ sum_to (length (members t p)) (λ k. rate t (member t p k)) * end)
       go None e =
           (let all = ticks-le-all (run p) (suc n) in
           let some = r.some in
           let past = tick_below n (n / t.scale + 1) t.scale r.tree.scaled (omega arith) in
-          let whole = ap (λ w. w * (n / t.scale + 1)) (r.tree.summed p i ∙ r.tree.roots_are p i e) in
-          (n / t.scale + 1, omega (arith, up, some), (λ k l. (let above = (h.windows k l).open_still (n / t.scale) in omega (arith, above))), omega (arith, all, whole, past)))
+          let whole = ap (λ w. w * (n / t.scale + 1)) (r.tree.summed p i ∙ r.tree.roots_are p i e) in (
+            n / t.scale + 1,
+            omega (arith, up, some),
+            (λ k l. (let above = (h.windows k l).open_still (n / t.scale) in omega (arith, above))),
+            omega (arith, all, whole, past),
+          ))
       go (Some d) e =
           (let busy = pack_busy tasks r.each t r.tree r.holds units (start / t.scale) r.some r.released r.whole r.apart (level t p) p d i refl e in
           let has = pack_has (set_boundary tasks) t r.tree leaves_of (level t p) p i refl in
@@ -169,7 +178,8 @@ module _ (tasks : List declared.Task) (t : Tree) (units start : ℕ) (r : Recurs
           (end, near, (λ k l. h.ends_first k (n / t.scale) l), omega (arith, order, all)))
 
   -- where an idle leaf runs, no other member of its pack has anything left
-  others_done : (p e : ℕ) → (i : IsPack t p) → (l : e < length (members t p)) → is_idle (leaf t (member t p e)) ≡ true → (m n : ℕ) → start / t.scale ≤ m → n / t.scale ≤ m →
+  others_done : (p e : ℕ) → (i : IsPack t p) → (l : e < length (members t p)) → is_idle (leaf t (member t p e)) ≡ true → (m n : ℕ) → start / t.scale ≤ m →
+      n / t.scale ≤ m →
       m + units < 2 ^ 33 → run (member t p e) n ≡ true → (k : ℕ) → k < length (members t p) → (k ≡ e → ⊥) → left (server (set_boundary tasks) t p) k n ≡ 0
   others_done p e i l idle m n low up early runs k b other =
       let v = server (set_boundary tasks) t p in
@@ -184,7 +194,8 @@ module _ (tasks : List declared.Task) (t : Tree) (units start : ℕ) (r : Recurs
             let first = subst P same soon in
             elim (idle_or_busy (member t p k) (r.tree.members_are p k i b).0) [
               | inl too ↦ absurd (other (r.apart.one p k e i b l too.1 idle))
-              | inr busy ↦ (let near = busy_ends (member t p k) (r.tree.members_are p k i b).0 busy.1 m (n / t.scale) low up in absurd (omega (arith, far, first, near, early)))
+              | inr busy ↦ (let near = busy_ends (member t p k) (r.tree.members_are p k i b).0 busy.1 m (n / t.scale) low up in
+                  absurd (omega (arith, far, first, near, early)))
             ])
       ]
     where
@@ -192,7 +203,8 @@ module _ (tasks : List declared.Task) (t : Tree) (units start : ℕ) (r : Recurs
       member_leaf p e i l idle = ((r.tree.members_are p e i l).0.0, idle_leaf (kind_at t (member t p e)) idle)
 
   -- so an idle leaf runs no more than its rate
-  idle_within : (p e : ℕ) → (i : IsPack t p) → (l : e < length (members t p)) → is_idle (leaf t (member t p e)) ≡ true → (m : ℕ) → start / t.scale ≤ m → m + units < 2 ^ 33 →
+  idle_within : (p e : ℕ) → (i : IsPack t p) → (l : e < length (members t p)) → is_idle (leaf t (member t p e)) ≡ true → (m : ℕ) → start / t.scale ≤ m →
+      m + units < 2 ^ 33 →
       (n : ℕ) → n ≤ suc m * t.scale → ticks (run (member t p e)) n ≤ rate t (member t p e) * (m + units)
   idle_within p e i l idle m low early zero up = omega arith
   idle_within p e i l idle m low early (suc n) up =
@@ -202,14 +214,16 @@ module _ (tasks : List declared.Task) (t : Tree) (units start : ℕ) (r : Recurs
         | inr off ↦ (let z = bit_off (run (member t p e) n) off in omega (arith, ih, z))
         | inl on ↦
             (let (end, near, after, most) = supply p i m n low unit in
-            let within = alone_within (server (set_boundary tasks) t p) (server_serves (set_boundary tasks) t r.tree leaves_of p i) (supplied_all (set_boundary tasks) t r.tree leaves_of p i)
+            let within = alone_within (server (set_boundary tasks) t p) (server_serves (set_boundary tasks) t r.tree leaves_of p i)
+            (supplied_all (set_boundary tasks) t r.tree leaves_of p i)
             e n end l (others_done p e i l idle m n low unit early on) after most in
             let far = mul-le-mul_left (rate t (member t p e)) near in
             omega (arith, within, far))
       ]
 
   -- and has always something left
-  pub idle_left : (x : ℕ) → (i : IsLeaf t x) → is_idle (leaf t x) ≡ true → (n : ℕ) → start ≤ n → n / t.scale + units < 2 ^ 33 → 0 < left_at (set_boundary tasks) t n x
+  pub idle_left : (x : ℕ) → (i : IsLeaf t x) → is_idle (leaf t x) ≡ true → (n : ℕ) → start ≤ n → n / t.scale + units < 2 ^ 33 →
+      0 < left_at (set_boundary tasks) t n x
   idle_left x i idle n after low =
       let u = n / t.scale in
       let some = r.some in
@@ -225,7 +239,8 @@ module _ (tasks : List declared.Task) (t : Tree) (units start : ℕ) (r : Recurs
       let end = idle_end x i idle u in
       let none = ticks_at_none (run x) (window_begin (bound x) u) t.scale begin in
       let positive = (r.tree.leaves_are x i).1 in
-      let whole : rate t x * (2 ^ 33 - 0) ≤ rate t x * (window_end (bound x) u - window_begin (bound x) u) = mul-le-mul_left (rate t x) (omega (arith, begin, end)) in
+      let whole : rate t x * (2 ^ 33 - 0) ≤ rate t x * (window_end (bound x) u - window_begin (bound x) u) = mul-le-mul_left (rate t x)
+      (omega (arith, begin, end)) in
       let less : rate t x * (u + units) < rate t x * (2 ^ 33 - 0) = go (rate t x) (u + units) positive low in
       omega (arith, left, within, none, whole, less)
     where

@@ -16,7 +16,8 @@ any_of_same p q (x ∷ xs) f =
 
 module _ (of_leaf : Leaf → ℕ → Bool) (t : Tree) (h : IsTree t) (v u : ℕ) (same : (x : ℕ) → IsLeaf t x → of_leaf (leaf t x) v ≡ of_leaf (leaf t x) u) where
   same_pack_boundary : (l p : ℕ) → IsPack t p → level t p ≡ l → pack_boundary of_leaf t l p v ≡ pack_boundary of_leaf t l p u
-  same_pack_boundary zero p i at = any_of_same (λ x. member_boundary of_leaf (λ q w. false) (kind_at t x) v) (λ x. member_boundary of_leaf (λ q w. false) (kind_at t x) u) (members t p)
+  same_pack_boundary zero p i at = any_of_same (λ x. member_boundary of_leaf (λ q w. false) (kind_at t x) v) (λ x. member_boundary of_leaf (λ q w. false)
+      (kind_at t x) u) (members t p)
       (λ k b. at_kind k b (kind_of (kind_at t (member t p k))))
     where
       at_kind : (k : ℕ) (b : k < length (members t p)) → KindOf (kind_at t (member t p k)) →
@@ -24,15 +25,22 @@ module _ (of_leaf : Leaf → ℕ → Bool) (t : Tree) (h : IsTree t) (v u : ℕ)
       at_kind k b (inl a_leaf) =
           member_leaf of_leaf (λ q w. false) (kind_at t (member t p k)) v a_leaf ∙ same (member t p k) ((h.members_are p k i b).0.0, a_leaf)
           ∙ sym (member_leaf of_leaf (λ q w. false) (kind_at t (member t p k)) u a_leaf)
-      at_kind k b (inr (inl a_dual)) = member_dual of_leaf (λ q w. false) (kind_at t (member t p k)) v a_dual ∙ sym (member_dual of_leaf (λ q w. false) (kind_at t (member t p k)) u a_dual)
+      at_kind k b (inr (inl a_dual)) = member_dual of_leaf (λ q w. false) (kind_at t (member t p k)) v a_dual ∙ sym (member_dual of_leaf (λ q w. false)
+          (kind_at t (member t p k)) u a_dual)
       at_kind k b (inr (inr a_pack)) = absurd (both_ways (is_pack (kind_at t (member t p k))) (h.members_are p k i b).0.1 a_pack)
   same_pack_boundary (suc l) p i at = any_of_same (λ x. member_boundary of_leaf (λ q w. pack_boundary of_leaf t l q w) (kind_at t x) v)
-      (λ x. member_boundary of_leaf (λ q w. pack_boundary of_leaf t l q w) (kind_at t x) u) (members t p) (λ k b. at_kind (same_pack_boundary l) k b (kind_of (kind_at t (member t p k))))
+      (λ x. member_boundary of_leaf (λ q w. pack_boundary of_leaf t l q w) (kind_at t x) u) (members t p) (λ k b. at_kind (same_pack_boundary l) k b
+      (kind_of (kind_at t (member t p k))))
     where
-      at_kind : ((q : ℕ) → IsPack t q → level t q ≡ l → pack_boundary of_leaf t l q v ≡ pack_boundary of_leaf t l q u) → (k : ℕ) (b : k < length (members t p)) → KindOf (kind_at t (member t p k)) →
-          member_boundary of_leaf (λ q w. pack_boundary of_leaf t l q w) (kind_at t (member t p k)) v ≡ member_boundary of_leaf (λ q w. pack_boundary of_leaf t l q w) (kind_at t (member t p k)) u
+      at_kind : ((q : ℕ) → IsPack t q → level t q ≡ l → pack_boundary of_leaf t l q v ≡ pack_boundary of_leaf t l q u) →
+          (k : ℕ) (b : k < length (members t p)) → KindOf (kind_at t (member t p k)) →
+          member_boundary of_leaf (λ q w. pack_boundary of_leaf t l q w) (kind_at t (member t p k)) v ≡ member_boundary of_leaf
+          (λ q w. pack_boundary of_leaf t l q w) (kind_at t (member t p k)) u
       at_kind ih k b (inl a_leaf) =
-          member_leaf of_leaf (λ q w. pack_boundary of_leaf t l q w) (kind_at t (member t p k)) v a_leaf ∙ same (member t p k) ((h.members_are p k i b).0.0, a_leaf)
+          member_leaf of_leaf (λ q w. pack_boundary of_leaf t l q w) (kind_at t (member t p k)) v a_leaf ∙ same (member t p k) (
+            (h.members_are p k i b).0.0,
+            a_leaf,
+          )
           ∙ sym (member_leaf of_leaf (λ q w. pack_boundary of_leaf t l q w) (kind_at t (member t p k)) u a_leaf)
       at_kind ih k b (inr (inl a_dual)) =
           (let d = h.duals_are (member t p k) ((h.members_are p k i b).0.0, a_dual) in

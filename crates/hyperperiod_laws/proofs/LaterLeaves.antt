@@ -1,5 +1,6 @@
 -- The boundaries of a set's tree from a unit on at which no task is late, where each period divides `units`.
-use Rattle.std.proofs.Common.{Bool, List, [], None, Some, ap, arith, div-add-mod', eq-eqb, eqb, false, inl, inr, le-leb, leb, length, mod-lt, refl, suc, sym, true, zero, ℕ, ◌%◌, ◌&&◌, ◌*◌, ◌+◌, ◌-◌, ◌/◌, ◌<◌, ◌≤◌, ◌^◌, ◌||◌, ◌∙◌, ◌≡◌, ◌⊎◌, ◌∷◌}
+use Rattle.std.proofs.Common.{Bool, List, [], None, Some, ap, arith, div-add-mod', eq-eqb, eqb, false, inl, inr, le-leb, leb, length, mod-lt, refl}
+use Rattle.std.proofs.Common.{suc, sym, true, zero, ℕ, ◌%◌, ◌&&◌, ◌*◌, ◌+◌, ◌-◌, ◌/◌, ◌<◌, ◌≤◌, ◌^◌, ◌||◌, ◌∙◌, ◌≡◌, ◌⊎◌, ◌∷◌}
 use Rattle.std.proofs.lemmas.Bool.{both_ways, cases_eq, ne_eqb, or_left}
 use Rattle.std.proofs.lemmas.Nat.Gcd.{le_of_dvd, mod-eq-zero_of_dvd}
 use Rattle.std.specs.Int.{◌∣◌}
@@ -23,7 +24,8 @@ use Rattle.hyperperiod_laws.proofs.LaterBoundaries.{same_bound_member}
 use Rattle.hyperperiod_laws.proofs.LaterWindows.{AreWithin}
 
 -- what holds of each task holds of it by what it says
-pub each_by : (P Q : declared.Task → Type 0) → ((k : declared.Task) → P k → Q k) → (tasks : List declared.Task) → AllByRecursion P tasks → AllByRecursion Q tasks
+pub each_by : (P Q : declared.Task → Type 0) → ((k : declared.Task) → P k → Q k) → (tasks : List declared.Task) → AllByRecursion P tasks →
+    AllByRecursion Q tasks
 each_by P Q f [] all = tt
 each_by P Q f (k ∷ tasks) all = (f k all.0, each_by P Q f tasks all.1)
 
@@ -66,7 +68,8 @@ abbrev pub IdleOrBusy : List declared.Task → Tree → ℕ → ℕ → ℕ → 
 IdleOrBusy tasks t units from x = (IsLeaf t x × (is_idle (leaf t x) ≡ true)) ⊎ IsBusy tasks t units from x
 
 -- a node that has all boundaries of another
-busier : (tasks : List declared.Task) (t : Tree) (units from x y : ℕ) → ((u : ℕ) → is_boundary (set_boundary tasks) t x u ≡ true → is_boundary (set_boundary tasks) t y u ≡ true) →
+busier : (tasks : List declared.Task) (t : Tree) (units from x y : ℕ) → ((u : ℕ) → is_boundary (set_boundary tasks) t x u ≡ true →
+    is_boundary (set_boundary tasks) t y u ≡ true) →
     IsBusy tasks t units from x → IsBusy tasks t units from y
 busier tasks t units from x y more busy = record {
   within = λ u low. (let (v, above, near, at) = busy.within u low in (v, above, near, more v at));
@@ -76,7 +79,8 @@ busier tasks t units from x y more busy = record {
 module _ (tasks : List declared.Task) (t : Tree) (h : IsTree t) (holds : HoldsTasks tasks t) (units from : ℕ)
     (released : AllByRecursion (λ k. k.offset ≤ from) tasks) (whole : PeriodsDivide tasks units) where
   -- the boundaries of a task's leaf come again
-  pub task_leaf_later : (x : ℕ) → IsLeaf t x → is_idle (leaf t x) ≡ false → (u : ℕ) → from ≤ u → set_boundary tasks (leaf t x) (u + units) ≡ set_boundary tasks (leaf t x) u
+  pub task_leaf_later : (x : ℕ) → IsLeaf t x → is_idle (leaf t x) ≡ false → (u : ℕ) → from ≤ u → set_boundary tasks (leaf t x) (u + units) ≡ set_boundary
+      tasks (leaf t x) u
   task_leaf_later x i busy u low = go (leaf t x) refl busy
     where
       go : (l : Leaf) → leaf t x ≡ l → is_idle l ≡ false → set_boundary tasks l (u + units) ≡ set_boundary tasks l u
@@ -90,7 +94,8 @@ module _ (tasks : List declared.Task) (t : Tree) (h : IsTree t) (holds : HoldsTa
       go Empty e b = refl
 
   -- those of each leaf do, but for idle leaves at unit 0 and from unit 2 ^ 33 on
-  pub leaf_later : (u : ℕ) → 0 < u → from ≤ u → u + units < 2 ^ 33 → (x : ℕ) → IsLeaf t x → set_boundary tasks (leaf t x) (u + units) ≡ set_boundary tasks (leaf t x) u
+  pub leaf_later : (u : ℕ) → 0 < u → from ≤ u → u + units < 2 ^ 33 → (x : ℕ) → IsLeaf t x → set_boundary tasks (leaf t x) (u + units) ≡ set_boundary tasks
+      (leaf t x) u
   leaf_later u p low l x i = go (leaf t x) refl
     where
       go : (m : Leaf) → leaf t x ≡ m → set_boundary tasks (leaf t x) (u + units) ≡ set_boundary tasks (leaf t x) u
@@ -102,7 +107,8 @@ module _ (tasks : List declared.Task) (t : Tree) (h : IsTree t) (holds : HoldsTa
       go Empty e = task_leaf_later x i (ap is_idle e) u low
 
   -- and so do those of each node
-  pub member_later : (x : ℕ) → IsMember t x → (u : ℕ) → 0 < u → from ≤ u → u + units < 2 ^ 33 → is_boundary (set_boundary tasks) t x (u + units) ≡ is_boundary (set_boundary tasks) t x u
+  pub member_later : (x : ℕ) → IsMember t x → (u : ℕ) → 0 < u → from ≤ u → u + units < 2 ^ 33 → is_boundary (set_boundary tasks) t x
+      (u + units) ≡ is_boundary (set_boundary tasks) t x u
   member_later x i u p low l = same_bound_member (set_boundary tasks) t h (u + units) u (leaf_later u p low l) x i
 
   -- at unit 0 too, where the node is busy
@@ -116,7 +122,8 @@ module _ (tasks : List declared.Task) (t : Tree) (h : IsTree t) (holds : HoldsTa
         ∙ sym (ap (is_boundary (set_boundary tasks) t x) z ∙ (member_has (set_boundary tasks) t h leaves x i).first))
   ]
 
-module _ (tasks : List declared.Task) (each : AllByRecursion IsLawfulTask tasks) (t : Tree) (h : IsTree t) (holds : HoldsTasks tasks t) (units from : ℕ) (some : 1 ≤ units)
+module _ (tasks : List declared.Task) (each : AllByRecursion IsLawfulTask tasks) (t : Tree) (h : IsTree t) (holds : HoldsTasks tasks t) (units from : ℕ)
+    (some : 1 ≤ units)
     (released : AllByRecursion (λ k. k.offset ≤ from) tasks) (whole : PeriodsDivide tasks units) where
   pub leaf_is : (x : ℕ) → IsLeaf t x → IdleOrBusy tasks t units from x
   leaf_is x i = go (leaf t x) refl
@@ -129,7 +136,8 @@ module _ (tasks : List declared.Task) (each : AllByRecursion IsLawfulTask tasks)
           let divides = of_task (λ k. k.period ∣ units) tasks id.0 whole l in
           let k_lawful = each_lawful tasks id.0 each l in
           let positive : 0 < k.period = (let a = k_lawful.some_work in let b = k_lawful.work_fits in omega (arith, a, b)) in
-          let bound : (u : ℕ) → is_boundary (set_boundary tasks) t x u ≡ task_boundary k u = (λ u. bound_leaf (set_boundary tasks) t h x i u ∙ ap (λ m. set_boundary tasks m u) e) in
+          let bound : (u : ℕ) → is_boundary (set_boundary tasks) t x u ≡ task_boundary k u = (λ u. bound_leaf (set_boundary tasks) t h x i u
+          ∙ ap (λ m. set_boundary tasks m u) e) in
           inr (record {
             within = λ u low. (let (v, above, near, at) = task_within k units from positive late some divides u low in (v, above, near, bound v ∙ at));
             first = λ z. (
@@ -142,7 +150,8 @@ module _ (tasks : List declared.Task) (each : AllByRecursion IsLawfulTask tasks)
       go (Idle number) e = inl (i, ap is_idle e)
       go Empty e = absurd (both_ways (is_real (leaf t x)) (ap is_real e) (holds.real x i))
 
-module _ (tasks : List declared.Task) (each : AllByRecursion IsLawfulTask tasks) (t : Tree) (h : IsTree t) (holds : HoldsTasks tasks t) (units from : ℕ) (some : 1 ≤ units)
+module _ (tasks : List declared.Task) (each : AllByRecursion IsLawfulTask tasks) (t : Tree) (h : IsTree t) (holds : HoldsTasks tasks t) (units from : ℕ)
+    (some : 1 ≤ units)
     (released : AllByRecursion (λ k. k.offset ≤ from) tasks) (whole : PeriodsDivide tasks units) (apart : IdlesApart t) where
   -- a member makes its pack busy
   busy_by : (p k : ℕ) → (i : IsPack t p) → (l : k < length (members t p)) → IsBusy tasks t units from (member t p k) → IsBusy tasks t units from p
@@ -157,7 +166,8 @@ module _ (tasks : List declared.Task) (each : AllByRecursion IsLawfulTask tasks)
         where
           go : KindOf (kind_at t (member t p k)) → IsLeaf t (member t p k)
           go (inl is) = ((h.members_are p k i l).0.0, is)
-          go (inr (inl is)) = (let up = (h.duals_are (member t p k) ((h.members_are p k i l).0.0, is)).2 in let same = ap (level t) (h.members_are p k i l).1 in absurd (omega (arith, up, same, at)))
+          go (inr (inl is)) = (let up = (h.duals_are (member t p k) ((h.members_are p k i l).0.0, is)).2 in let same = ap (level t)
+              (h.members_are p k i l).1 in absurd (omega (arith, up, same, at)))
           go (inr (inr is)) = absurd (both_ways (is_pack (kind_at t (member t p k))) (h.members_are p k i l).0.1 is)
 
       first : 0 < length (members t p) → (length (members t p) ≡ 1) ⊎ (length (members t p) ≡ 1 → ⊥) → IsBusy tasks t units from p
@@ -176,8 +186,10 @@ module _ (tasks : List declared.Task) (each : AllByRecursion IsLawfulTask tasks)
           ]
   pack_busy (suc n) p d i at e = busy_by p 0 i (h.filled p i) (go (pack_busy n) (kind_of (kind_at t (member t p 0))))
     where
-      go : ((q c : ℕ) → IsPack t q → level t q ≡ n → dual t q ≡ Some c → IsBusy tasks t units from q) → KindOf (kind_at t (member t p 0)) → IsBusy tasks t units from (member t p 0)
-      go ih (inl is) = (let down = (h.leaves_are (member t p 0) ((h.members_are p 0 i (h.filled p i)).0.0, is)).0 in let same = ap (level t) (h.members_are p 0 i (h.filled p i)).1 in absurd (omega (arith, down, same, at)))
+      go : ((q c : ℕ) → IsPack t q → level t q ≡ n → dual t q ≡ Some c → IsBusy tasks t units from q) → KindOf (kind_at t (member t p 0)) →
+          IsBusy tasks t units from (member t p 0)
+      go ih (inl is) = (let down = (h.leaves_are (member t p 0) ((h.members_are p 0 i (h.filled p i)).0.0, is)).0 in let same = ap (level t)
+          (h.members_are p 0 i (h.filled p i)).1 in absurd (omega (arith, down, same, at)))
       go ih (inr (inl is)) =
           (let a : IsDual t (member t p 0) = ((h.members_are p 0 i (h.filled p i)).0.0, is) in
           let o = h.duals_are (member t p 0) a in
@@ -196,5 +208,6 @@ module _ (tasks : List declared.Task) (each : AllByRecursion IsLawfulTask tasks)
       go (inr (inl is)) =
           (let a : IsDual t x = (i.0, is) in
           let o = h.duals_are x a in
-          inr (busier tasks t units from (primal t x) x (λ u b. bound_dual (set_boundary tasks) t h x a u ∙ b) (pack_busy (level t (primal t x)) (primal t x) x o.0 refl o.1)))
+          inr (busier tasks t units from (primal t x) x (λ u b. bound_dual (set_boundary tasks) t h x a u ∙ b) (pack_busy (level t (primal t x))
+          (primal t x) x o.0 refl o.1)))
       go (inr (inr is)) = absurd (both_ways (is_pack (kind_at t x)) i.1 is)

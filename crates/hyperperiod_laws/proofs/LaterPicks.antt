@@ -46,9 +46,12 @@ alike_members end remain end' remain' ms before equal some none =
     let long : length cs ≡ length ms = length-map ms (λ (m : ℕ). let c : Candidate = record { end = end m; remain = remain m } in c) in
     let long' : length ds ≡ length ms = length-map ms (λ (m : ℕ). let c : Candidate = record { end = end' m; remain = remain' m } in c) in
     let e : (k : ℕ) → k < length ms → (candidate_at cs k).end ≡ end (get_or ms k 0) = (λ k l. ap (λ (c : Candidate). c.end) (listed_at end remain ms k l)) in
-    let e' : (k : ℕ) → k < length ms → (candidate_at ds k).end ≡ end' (get_or ms k 0) = (λ k l. ap (λ (c : Candidate). c.end) (listed_at end' remain' ms k l)) in
-    let r : (k : ℕ) → k < length ms → (candidate_at cs k).remain ≡ remain (get_or ms k 0) = (λ k l. ap (λ (c : Candidate). c.remain) (listed_at end remain ms k l)) in
-    let r' : (k : ℕ) → k < length ms → (candidate_at ds k).remain ≡ remain' (get_or ms k 0) = (λ k l. ap (λ (c : Candidate). c.remain) (listed_at end' remain' ms k l)) in
+    let e' : (k : ℕ) → k < length ms → (candidate_at ds k).end ≡ end' (get_or ms k 0) = (λ k l. ap (λ (c : Candidate). c.end) (listed_at end' remain' ms k
+    l)) in
+    let r : (k : ℕ) → k < length ms → (candidate_at cs k).remain ≡ remain (get_or ms k 0) = (λ k l. ap (λ (c : Candidate). c.remain)
+    (listed_at end remain ms k l)) in
+    let r' : (k : ℕ) → k < length ms → (candidate_at ds k).remain ≡ remain' (get_or ms k 0) = (λ k l. ap (λ (c : Candidate). c.remain)
+    (listed_at end' remain' ms k l)) in
     alike_earliest cs ds (long ∙ sym long') (record {
       before = λ j k lj lk less. (
           let a : j < length ms = omega (arith, lj, long') in let b : k < length ms = omega (arith, lk, long') in

@@ -1,5 +1,6 @@
 -- Places come again once they are the same, and with them the rows of rounds.
-use Rattle.std.proofs.Common.{Bool, List, None, Option, Some, [], ap, ap₂, arith, false, get_or, length, map, refl, suc, sym, subst, true, zero, ℕ, ◌*◌, ◌+◌, ◌/◌, ◌<◌, ◌^◌, ◌∙◌, ◌∷◌, ◌≡◌, ◌≤◌}
+use Rattle.std.proofs.Common.{Bool, List, None, Option, Some, [], ap, ap₂, arith, false, get_or, length, map, refl, suc, sym, subst, true, zero, ℕ}
+use Rattle.std.proofs.Common.{◌*◌, ◌+◌, ◌/◌, ◌<◌, ◌^◌, ◌∙◌, ◌∷◌, ◌≡◌, ◌≤◌}
 use Rattle.std.proofs.lemmas.Bool.{le-ltb}
 use Rattle.sched_base.specs.declared.rows.Leaf.{Leaf}
 use Rattle.sched_base.specs.declared.rows.Leaf.TheVariants.{Empty, Idle, Task, Wait}
@@ -26,12 +27,14 @@ use Rattle.hyperperiod_laws.proofs.LaterRuns.{runs_again}
 
 module _ (tasks : List declared.Task) (t : Tree) (units start : ℕ) (r : Recurs tasks t units start) where
   -- the same packs of level 0 run
-  pub packs_again : (n : ℕ) → start ≤ n → n + 2 * (units * t.scale) < 2 ^ 33 * t.scale → packs_running (set_boundary tasks) t (n + units * t.scale) ≡ packs_running (set_boundary tasks) t n
+  pub packs_again : (n : ℕ) → start ≤ n → n + 2 * (units * t.scale) < 2 ^ 33 * t.scale → packs_running (set_boundary tasks) t (n + units * t.scale)
+      ≡ packs_running (set_boundary tasks) t n
   packs_again n after early = same_map (λ p. runs (set_boundary tasks) t p (n + units * t.scale)) (λ p. runs (set_boundary tasks) t p n) (packs_at t 0)
       (λ k l. runs_again tasks t units start r n (get_or (packs_at t 0) k 0) after early (first_is_pack t r.tree k l).0)
 
   -- places that are the same again stay so
-  pub places_again : (n k : ℕ) → start ≤ n → n + k + 2 * (units * t.scale) ≤ 2 ^ 33 * t.scale → places_below (set_boundary tasks) t (n + units * t.scale) ≡ places_below (set_boundary tasks) t n →
+  pub places_again : (n k : ℕ) → start ≤ n → n + k + 2 * (units * t.scale) ≤ 2 ^ 33 * t.scale → places_below (set_boundary tasks) t (n + units * t.scale)
+      ≡ places_below (set_boundary tasks) t n →
       places_below (set_boundary tasks) t (n + k + units * t.scale) ≡ places_below (set_boundary tasks) t (n + k)
   places_again n zero after early same =
       let e : n ≡ n + 0 = omega arith in
@@ -46,7 +49,8 @@ module _ (tasks : List declared.Task) (t : Tree) (units start : ℕ) (r : Recurs
       ∙ ap (places_below (set_boundary tasks) t) f
 
   -- so the packs on the processors come again
-  pub onto_again : (n k : ℕ) → start ≤ n → suc (n + k) + 2 * (units * t.scale) ≤ 2 ^ 33 * t.scale → places_below (set_boundary tasks) t (n + units * t.scale) ≡ places_below (set_boundary tasks) t n →
+  pub onto_again : (n k : ℕ) → start ≤ n → suc (n + k) + 2 * (units * t.scale) ≤ 2 ^ 33 * t.scale → places_below (set_boundary tasks) t
+      (n + units * t.scale) ≡ places_below (set_boundary tasks) t n →
       onto_at (set_boundary tasks) t (n + k + units * t.scale) ≡ onto_at (set_boundary tasks) t (n + k)
   onto_again n k after early same =
       let e : suc (n + k + units * t.scale) ≡ n + suc k + units * t.scale = omega arith in
@@ -64,7 +68,8 @@ offsets-le P none (k ∷ tasks) all zero = all.0
 offsets-le P none (k ∷ tasks) all (suc j) = offsets-le P none tasks all.1 j
 
 -- where no task waits any more, each leaf is shown as it is
-pub shown_released : (tasks : List declared.Task) (scale start : ℕ) → AllByRecursion (λ k. k.offset * scale ≤ start) tasks → (l : Leaf) → shown tasks scale start l ≡ l
+pub shown_released : (tasks : List declared.Task) (scale start : ℕ) → AllByRecursion (λ k. k.offset * scale ≤ start) tasks → (l : Leaf) →
+    shown tasks scale start l ≡ l
 shown_released tasks scale start all (Task id) =
     let z = offsets-le (λ o. o * scale ≤ start) (omega arith) tasks all id.0 in
     ap (λ (b : Bool). elim b as (λ y. Leaf) [ true ↦ Wait id | false ↦ Task id ]) (le-ltb start ((task_at tasks id.0).offset * scale) z)
@@ -74,20 +79,25 @@ shown_released tasks scale start all Empty = refl
 
 -- nor where none has an offset
 pub shown_on_time : (tasks : List declared.Task) (scale : ℕ) → AllByRecursion (λ k. k.offset ≡ 0) tasks → (start : ℕ) (l : Leaf) → shown tasks scale start l ≡ l
-shown_on_time tasks scale all start l = shown_released tasks scale start (each_by (λ k. k.offset ≡ 0) (λ k. k.offset * scale ≤ start) (λ k z. (let e = ap (λ o. o * scale) z in omega (arith, e))) tasks all) l
+shown_on_time tasks scale all start l = shown_released tasks scale start (each_by (λ k. k.offset ≡ 0) (λ k. k.offset * scale ≤ start)
+    (λ k z. (let e = ap (λ o. o * scale) z in omega (arith, e))) tasks all) l
 
-module _ (tasks : List declared.Task) (t : Tree) (units start : ℕ) (r : Recurs tasks t units start) (n : ℕ) (after : start ≤ n) (early : n + 2 * (units * t.scale) < 2 ^ 33 * t.scale) where
+module _ (tasks : List declared.Task) (t : Tree) (units start : ℕ) (r : Recurs tasks t units start) (n : ℕ) (after : start ≤ n)
+    (early : n + 2 * (units * t.scale) < 2 ^ 33 * t.scale) where
   -- no task waits from there on
   released_at : (m : ℕ) → start ≤ m → AllByRecursion (λ k. k.offset * t.scale ≤ m) tasks
-  released_at m late = each_by (λ k. k.offset ≤ start / t.scale) (λ k. k.offset * t.scale ≤ m) (λ k low. (let at = tick_from start k.offset t.scale r.tree.scaled low in omega (arith, at, late))) tasks r.released
+  released_at m late = each_by (λ k. k.offset ≤ start / t.scale) (λ k. k.offset * t.scale ≤ m) (λ k low. (let at = tick_from start k.offset t.scale
+      r.tree.scaled low in omega (arith, at, late))) tasks r.released
 
   -- the same leaf runs among members
   leaf_among_again : (ms : List ℕ) → ((k : ℕ) → k < length ms → get_or ms k 0 < length t.nodes) →
       leaf_among (set_boundary tasks) t (n + units * t.scale) ms ≡ leaf_among (set_boundary tasks) t n ms
   leaf_among_again [] there = refl
   leaf_among_again (x ∷ xs) there =
-      ap (λ (b : Bool). elim b as (λ y. Leaf) [ true ↦ leaf t x | false ↦ leaf_among (set_boundary tasks) t (n + units * t.scale) xs ]) (runs_again tasks t units start r n x after early (there 0 (omega arith)))
-      ∙ ap (λ (l : Leaf). elim (runs (set_boundary tasks) t x n) as (λ y. Leaf) [ true ↦ leaf t x | false ↦ l ]) (leaf_among_again xs (λ k b. there (suc k) (omega (arith, b))))
+      ap (λ (b : Bool). elim b as (λ y. Leaf) [ true ↦ leaf t x | false ↦ leaf_among (set_boundary tasks) t (n + units * t.scale) xs ])
+      (runs_again tasks t units start r n x after early (there 0 (omega arith)))
+      ∙ ap (λ (l : Leaf). elim (runs (set_boundary tasks) t x n) as (λ y. Leaf) [ true ↦ leaf t x | false ↦ l ])
+      (leaf_among_again xs (λ k b. there (suc k) (omega (arith, b))))
 
   -- and on a processor
   leaf_on_again : (o : Option ℕ) → ((i : ℕ) → o ≡ Some i → i < length (packs_at t 0)) →
@@ -101,11 +111,14 @@ module _ (tasks : List declared.Task) (t : Tree) (units start : ℕ) (r : Recurs
       rows_from tasks t (n + units * t.scale) (end + units * t.scale) p onto ≡ map (later (units * t.scale)) (rows_from tasks t n end p onto)
   rows_again end [] within p = refl
   rows_again end (o ∷ onto) within p =
-      let same : shown tasks t.scale (n + units * t.scale) (leaf_on (set_boundary tasks) t (n + units * t.scale) o) ≡ shown tasks t.scale n (leaf_on (set_boundary tasks) t n o) =
-      shown_released tasks t.scale (n + units * t.scale) (released_at (n + units * t.scale) (omega (arith, after))) (leaf_on (set_boundary tasks) t (n + units * t.scale) o)
+      let same : shown tasks t.scale (n + units * t.scale) (leaf_on (set_boundary tasks) t (n + units * t.scale) o) ≡ shown tasks t.scale n
+      (leaf_on (set_boundary tasks) t n o) =
+      shown_released tasks t.scale (n + units * t.scale) (released_at (n + units * t.scale) (omega (arith, after))) (leaf_on (set_boundary tasks) t
+      (n + units * t.scale) o)
       ∙ leaf_on_again o (λ i is. within 0 i (omega arith) is)
       ∙ sym (shown_released tasks t.scale n (released_at n after) (leaf_on (set_boundary tasks) t n o)) in
-      ap₂ (λ (l : Leaf) (rows : List Row). let first : Row = record { processor = p; start = n + units * t.scale; end = end + units * t.scale; leaf = l } in first ∷ rows)
+      ap₂ (λ (l : Leaf) (rows : List Row). let first : Row = record { processor = p; start = n + units * t.scale; end = end + units * t.scale; leaf = l } in
+      first ∷ rows)
       same (rows_again end onto (λ q i l is. within (suc q) i (omega (arith, l)) is) (suc p))
 
   -- the rows of a round come again

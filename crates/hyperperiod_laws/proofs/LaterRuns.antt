@@ -1,5 +1,6 @@
 -- What runs comes again.
-use Rattle.std.proofs.Common.{Bool, List, ap, ap₂, arith, false, inl, inr, le_refl, length, subst, suc, sym, true, zero, ℕ, ◌&&◌, ◌*◌, ◌+◌, ◌-◌, ◌/◌, ◌<◌, ◌^◌, ◌∙◌, ◌≡◌, ◌≤◌, ◌⊎◌}
+use Rattle.std.proofs.Common.{Bool, List, ap, ap₂, arith, false, inl, inr, le_refl, length, subst, suc, sym, true, zero, ℕ, ◌&&◌, ◌*◌, ◌+◌, ◌-◌, ◌/◌}
+use Rattle.std.proofs.Common.{◌<◌, ◌^◌, ◌∙◌, ◌≡◌, ◌≤◌, ◌⊎◌}
 use Rattle.std.proofs.lemmas.Bool.{cases_Bool, cases_eq, cases_lt}
 use Rattle.sched_base.specs.declared.sets.Task as declared
 use Rattle.sched_base.specs.Candidates.{is_at}
@@ -20,7 +21,8 @@ use Rattle.hyperperiod_laws.proofs.LaterPicks.{alike_members}
 use Rattle.hyperperiod_laws.proofs.LaterWindows.{begins_later, ends_later, still_later, ticks_between, unit_later}
 
 -- a tick from `start` on, up to which all comes again, in a unit that is early enough
-module _ (tasks : List declared.Task) (t : Tree) (units start : ℕ) (r : Recurs tasks t units start) (n : ℕ) (after : start ≤ n) (low : n / t.scale + 2 * units < 2 ^ 33)
+module _ (tasks : List declared.Task) (t : Tree) (units start : ℕ) (r : Recurs tasks t units start) (n : ℕ) (after : start ≤ n)
+    (low : n / t.scale + 2 * units < 2 ^ 33)
     (same : (m x : ℕ) → start ≤ m → m < n → x < length t.nodes → runs (set_boundary tasks) t x (m + units * t.scale) ≡ runs (set_boundary tasks) t x m) where
   -- the tick so many units later
   abbrev then : ℕ
@@ -69,7 +71,8 @@ module _ (tasks : List declared.Task) (t : Tree) (units start : ℕ) (r : Recurs
       let leaves = leaves_of tasks t units start r in
       let begin : window_begin (test x) (then / t.scale) ≡ b + units =
       ap (window_begin (test x)) then_unit
-      ∙ begins_later (test x) (member_has (set_boundary tasks) t r.tree leaves x i) units (2 ^ 33) from (busy_bounds x i busy) (n / t.scale) (omega (arith, late)) (omega (arith, low)) in
+      ∙ begins_later (test x) (member_has (set_boundary tasks) t r.tree leaves x i) units (2 ^ 33) from (busy_bounds x i busy) (n / t.scale)
+      (omega (arith, late)) (omega (arith, low)) in
       let early = on_time (set_boundary tasks) t r.tree leaves x n i in
       let before = left_is (set_boundary tasks) t x n early in
       let after' = left_is (set_boundary tasks) t x then (on_time (set_boundary tasks) t r.tree leaves x then i) in
@@ -103,7 +106,8 @@ module _ (tasks : List declared.Task) (t : Tree) (units start : ℕ) (r : Recurs
       let unit = then_unit in
       let begun' : window_begin (test x) (then / t.scale) ≤ from + units =
       (let P : ℕ → Type 0 = λ u. window_begin (test x) u ≤ from + units in
-      subst P (sym then_unit) (still_later (test x) has units (2 ^ 33) from (busy_bounds x i busy) from (n / t.scale) (le_refl from) from_unit begun (omega (arith, low)))) in
+      subst P (sym then_unit) (still_later (test x) has units (2 ^ 33) from (busy_bounds x i busy) from (n / t.scale) (le_refl from) from_unit begun
+      (omega (arith, low)))) in
       let b = w.same_begin (n / t.scale) from begun (omega (arith, above, low')) in
       let e = w.same_end (n / t.scale) from begun (omega (arith, above, low')) in
       let b' = ap (window_begin (test x)) start_unit ∙ w.same_begin (then / t.scale) (from + units) begun' (omega (arith, above', low', unit)) in
@@ -130,7 +134,8 @@ module _ (tasks : List declared.Task) (t : Tree) (units start : ℕ) (r : Recurs
       omega (arith, now, now', there, there', due, due', whole, whole', given, ran, n', n'', order, order', up)
 
   -- busy nodes have as much left
-  pub busy_left : (x : ℕ) → IsMember t x → is_idle (leaf t x) ≡ false → IsBusy tasks t units from x → left_at (set_boundary tasks) t then x ≡ left_at (set_boundary tasks) t n x
+  pub busy_left : (x : ℕ) → IsMember t x → is_idle (leaf t x) ≡ false → IsBusy tasks t units from x → left_at (set_boundary tasks) t then x ≡ left_at
+      (set_boundary tasks) t n x
   busy_left x i other busy = elim (cases_lt from (window_begin (test x) (n / t.scale))) [
     | inl late ↦ later_left x i busy late
     | inr begun ↦ still_left x i other busy begun
@@ -146,13 +151,15 @@ module _ (tasks : List declared.Task) (t : Tree) (units start : ℕ) (r : Recurs
       w.same_end (n / t.scale) (then / t.scale) (omega (arith, begin)) (omega (arith, end, unit, low))
 
   -- ends stand in the same order
-  later_end : (x : ℕ) → IsMember t x → ((ends_at (set_boundary tasks) t then x ≡ ends_at (set_boundary tasks) t n x) × (2 ^ 33 ≤ ends_at (set_boundary tasks) t n x))
+  later_end : (x : ℕ) → IsMember t x → ((ends_at (set_boundary tasks) t then x ≡ ends_at (set_boundary tasks) t n x)
+      × (2 ^ 33 ≤ ends_at (set_boundary tasks) t n x))
       ⊎ ((ends_at (set_boundary tasks) t then x ≡ ends_at (set_boundary tasks) t n x + units) × (ends_at (set_boundary tasks) t n x + units < 2 ^ 33))
   later_end x i =
       let here = ends_is (set_boundary tasks) t x n in
       let there = ends_is (set_boundary tasks) t x then in
       elim (idle_or_busy tasks t units start r x i) [
-        | inl idle ↦ (let s = still_end x idle.0 i idle.1 in let far = idle_end tasks t units start r x idle.0 idle.1 (n / t.scale) in inl (omega (arith, here, there, s), omega (arith, here, far)))
+        | inl idle ↦ (let s = still_end x idle.0 i idle.1 in let far = idle_end tasks t units start r x idle.0 idle.1 (n / t.scale) in
+            inl (omega (arith, here, there, s), omega (arith, here, far)))
         | inr busy ↦ (let s = busy_end x i busy.1 in let near = busy_end-le x i busy.1 in inr (omega (arith, here, there, s), omega (arith, here, near, low)))
       ]
 
@@ -178,19 +185,22 @@ module _ (tasks : List declared.Task) (t : Tree) (units start : ℕ) (r : Recurs
       let p = (r.tree.homes_are x i).0 in
       let at : (k : ℕ) → k < length (members t (home t x)) → IsMember t (member t (home t x) k) = (λ k l. (r.tree.members_are (home t x) k p l).0) in
       ap (λ o. is_at o (place t x))
-      (sym (alike_members (ends_at (set_boundary tasks) t n) (left_at (set_boundary tasks) t n) (ends_at (set_boundary tasks) t then) (left_at (set_boundary tasks) t then) (members t (home t x))
+      (sym (alike_members (ends_at (set_boundary tasks) t n) (left_at (set_boundary tasks) t n) (ends_at (set_boundary tasks) t then)
+      (left_at (set_boundary tasks) t then) (members t (home t x))
       (λ j k lj lk less. before (later_end (member t (home t x) j) (at j lj)) (later_end (member t (home t x) k) (at k lk)) less)
       (λ j k lj lk e. equal (later_end (member t (home t x) j) (at j lj)) (later_end (member t (home t x) k) (at k lk)) e)
       (λ k l. some_later (member t (home t x) k) (at k l))
       (λ k l. some_before (member t (home t x) k) (at k l))))
     where
-      before : {a b c d : ℕ} → ((a ≡ b) × (2 ^ 33 ≤ b)) ⊎ ((a ≡ b + units) × (b + units < 2 ^ 33)) → ((c ≡ d) × (2 ^ 33 ≤ d)) ⊎ ((c ≡ d + units) × (d + units < 2 ^ 33)) → b < d → a < c
+      before : {a b c d : ℕ} → ((a ≡ b) × (2 ^ 33 ≤ b)) ⊎ ((a ≡ b + units) × (b + units < 2 ^ 33)) → ((c ≡ d) × (2 ^ 33 ≤ d))
+          ⊎ ((c ≡ d + units) × (d + units < 2 ^ 33)) → b < d → a < c
       before (inl x) (inl y) l = (let p = x.0 in let q = y.0 in omega (arith, p, q, l))
       before (inl x) (inr y) l = (let p = x.1 in let q = y.1 in absurd (omega (arith, p, q, l)))
       before (inr x) (inl y) l = (let p = x.0 in let q = y.0 in let v = x.1 in let w = y.1 in omega (arith, p, q, v, w, l))
       before (inr x) (inr y) l = (let p = x.0 in let q = y.0 in omega (arith, p, q, l))
 
-      equal : {a b c d : ℕ} → ((a ≡ b) × (2 ^ 33 ≤ b)) ⊎ ((a ≡ b + units) × (b + units < 2 ^ 33)) → ((c ≡ d) × (2 ^ 33 ≤ d)) ⊎ ((c ≡ d + units) × (d + units < 2 ^ 33)) → b ≡ d → a ≡ c
+      equal : {a b c d : ℕ} → ((a ≡ b) × (2 ^ 33 ≤ b)) ⊎ ((a ≡ b + units) × (b + units < 2 ^ 33)) → ((c ≡ d) × (2 ^ 33 ≤ d))
+          ⊎ ((c ≡ d + units) × (d + units < 2 ^ 33)) → b ≡ d → a ≡ c
       equal (inl x) (inl y) l = (let p = x.0 in let q = y.0 in omega (arith, p, q, l))
       equal (inl x) (inr y) l = (let p = x.1 in let q = y.1 in absurd (omega (arith, p, q, l)))
       equal (inr x) (inl y) l = (let v = x.1 in let w = y.1 in absurd (omega (arith, v, w, l)))
@@ -200,7 +210,8 @@ module _ (tasks : List declared.Task) (t : Tree) (units start : ℕ) (r : Recurs
   run_pack_later : (p : ℕ) → IsPack t p → runs (set_boundary tasks) t p then ≡ runs (set_boundary tasks) t p n
   run_pack_later p i =
       runs_is (set_boundary tasks) t p then i.0 ∙ now_pack t r.tree (left_at (set_boundary tasks) t then) (ends_at (set_boundary tasks) t then) p i
-      ∙ same_pack_runs t r.tree (is_picked t (left_at (set_boundary tasks) t then) (ends_at (set_boundary tasks) t then)) (is_picked t (left_at (set_boundary tasks) t n) (ends_at (set_boundary tasks) t n)) picked_later (t.levels - 1 - level t p) p i
+      ∙ same_pack_runs t r.tree (is_picked t (left_at (set_boundary tasks) t then) (ends_at (set_boundary tasks) t then))
+      (is_picked t (left_at (set_boundary tasks) t n) (ends_at (set_boundary tasks) t n)) picked_later (t.levels - 1 - level t p) p i
       ∙ sym (now_pack t r.tree (left_at (set_boundary tasks) t n) (ends_at (set_boundary tasks) t n) p i) ∙ sym (runs_is (set_boundary tasks) t p n i.0)
 
   -- the same members run
@@ -236,5 +247,6 @@ module _ (tasks : List declared.Task) (t : Tree) (units start : ℕ) (r : Recurs
         | inr ne ↦ ih m x a (omega (arith, b, ne)) in_tree
       ]
 
-  pub runs_again : (n x : ℕ) → start ≤ n → n + 2 * (units * t.scale) < 2 ^ 33 * t.scale → x < length t.nodes → runs (set_boundary tasks) t x (n + units * t.scale) ≡ runs (set_boundary tasks) t x n
+  pub runs_again : (n x : ℕ) → start ≤ n → n + 2 * (units * t.scale) < 2 ^ 33 * t.scale → x < length t.nodes → runs (set_boundary tasks) t x
+      (n + units * t.scale) ≡ runs (set_boundary tasks) t x n
   runs_again n x a l in_tree = runs_below (suc n) (omega (arith, l)) n x a (omega arith) in_tree

@@ -1,5 +1,6 @@
 -- The schedule comes again from a tick at which the places are those of so many units later.
-use Rattle.std.proofs.Common.{Bool, List, [], ap, ap₂, arith, filter, inl, inr, map, refl, subst, suc, sym, true, zero, zero-add, ℕ, ◌*◌, ◌+◌, ◌++◌, ◌-◌, ◌<◌, ◌^◌, ◌∙◌, ◌∷◌, ◌≡◌, ◌≤◌}
+use Rattle.std.proofs.Common.{Bool, List, [], ap, ap₂, arith, filter, inl, inr, map, refl, subst, suc, sym, true, zero, zero-add, ℕ, ◌*◌, ◌+◌, ◌++◌}
+use Rattle.std.proofs.Common.{◌-◌, ◌<◌, ◌^◌, ◌∙◌, ◌∷◌, ◌≡◌, ◌≤◌}
 use Rattle.std.specs.List.{AllByRecursion, range_with_len}
 use Rattle.std.proofs.lemmas.Bool.{cases_Bool}
 use Rattle.std.proofs.lemmas.List.{append_assoc, map-append}
@@ -25,7 +26,8 @@ range_parts a (suc m) n =
     ap (range_with_len a) f ∙ ap (λ xs. a ∷ xs) (range_parts (a + 1) m n ∙ ap (λ z. range_with_len (a + 1) m ++ range_with_len z n) e)
 
 -- what passes of numbers so many later
-passing_later : (f : ℕ → Bool) (d a n : ℕ) → ((i : ℕ) → a ≤ i → i < a + n → f (i + d) ≡ f i) → filter f (range_with_len (a + d) n) ≡ map (λ i. i + d) (filter f (range_with_len a n))
+passing_later : (f : ℕ → Bool) (d a n : ℕ) → ((i : ℕ) → a ≤ i → i < a + n → f (i + d) ≡ f i) → filter f (range_with_len (a + d) n) ≡ map (λ i. i + d)
+    (filter f (range_with_len a n))
 passing_later f d a zero same = refl
 passing_later f d a (suc n) same =
     let next : a + d + 1 ≡ a + 1 + d = omega arith in
@@ -78,26 +80,32 @@ range_within f low high a (suc n) l h =
       | inr off ↦ subst P (sym (passing_off f a n off)) ih
     ]
 
-module _ (tasks : List declared.Task) (t : Tree) (units from : ℕ) (r : Recurs tasks t units from) (n stop : ℕ) (after : from ≤ n) (early : stop + 2 * (units * t.scale) ≤ 2 ^ 33 * t.scale)
+module _ (tasks : List declared.Task) (t : Tree) (units from : ℕ) (r : Recurs tasks t units from) (n stop : ℕ) (after : from ≤ n)
+    (early : stop + 2 * (units * t.scale) ≤ 2 ^ 33 * t.scale)
     (same : places_below (set_boundary tasks) t (n + units * t.scale) ≡ places_below (set_boundary tasks) t n) where
   -- a round from tick n on comes again
-  pub round_later : (start end : ℕ) → n ≤ start → start < stop → round_rows tasks t (start + units * t.scale) (end + units * t.scale) ≡ map (later (units * t.scale)) (round_rows tasks t start end)
+  pub round_later : (start end : ℕ) → n ≤ start → start < stop → round_rows tasks t (start + units * t.scale) (end + units * t.scale) ≡ map
+      (later (units * t.scale)) (round_rows tasks t start end)
   round_later start end low high =
       let e : n + (start - n) ≡ start = omega (arith, low) in
       let P : ℕ → Type 0 = λ m. onto_at (set_boundary tasks) t (m + units * t.scale) ≡ onto_at (set_boundary tasks) t m in
-      round_again tasks t units from r start (omega (arith, after, low)) (omega (arith, early, high)) end (subst P e (onto_again tasks t units from r n (start - n) after (omega (arith, low, high, early)) same))
+      round_again tasks t units from r start (omega (arith, after, low)) (omega (arith, early, high)) end (subst P e (onto_again tasks t units from r n
+      (start - n) after (omega (arith, low, high, early)) same))
 
   rows_later : (end event : ℕ) (events : List ℕ) → n ≤ event → event < stop → AreEvents n stop events →
-      rows_of tasks t (end + units * t.scale) (event + units * t.scale) (map (λ i. i + units * t.scale) events) ≡ map (later (units * t.scale)) (rows_of tasks t end event events)
+      rows_of tasks t (end + units * t.scale) (event + units * t.scale) (map (λ i. i + units * t.scale) events) ≡ map (later (units * t.scale))
+      (rows_of tasks t end event events)
   rows_later end event [] low high all = round_later event end low high
   rows_later end event (next ∷ events) low high all =
       ap₂ (λ (a b : List Row). a ++ b) (round_later event next low high) (rows_later end next events all.0.0 all.0.1 all.1)
       ∙ sym (map-append (later (units * t.scale)) (round_rows tasks t event next) (rows_of tasks t end next events))
 
 -- the rows from tick n up to a later one come again behind those up to `n` and so many units more
-pub schedule_later : (tasks : List declared.Task) (t : Tree) (units from : ℕ) → Recurs tasks t units from → (n ticks : ℕ) → from ≤ n → is_event (set_boundary tasks) t (n + units * t.scale) ≡ true → n + suc ticks + 2 * (units * t.scale) ≤ 2 ^ 33 * t.scale →
+pub schedule_later : (tasks : List declared.Task) (t : Tree) (units from : ℕ) → Recurs tasks t units from → (n ticks : ℕ) → from ≤ n →
+    is_event (set_boundary tasks) t (n + units * t.scale) ≡ true → n + suc ticks + 2 * (units * t.scale) ≤ 2 ^ 33 * t.scale →
     is_event (set_boundary tasks) t n ≡ true → places_below (set_boundary tasks) t (n + units * t.scale) ≡ places_below (set_boundary tasks) t n →
-    schedule tasks t (n + units * t.scale + suc ticks) ≡ schedule tasks t (n + units * t.scale) ++ map (later (units * t.scale)) (rows_of tasks t (n + suc ticks) n (events_past tasks t n ticks))
+    schedule tasks t (n + units * t.scale + suc ticks) ≡ schedule tasks t (n + units * t.scale) ++ map (later (units * t.scale))
+    (rows_of tasks t (n + suc ticks) n (events_past tasks t n ticks))
 schedule_later tasks t units from r n ticks after there early on same =
     let d = units * t.scale in
     let f = is_event (set_boundary tasks) t in

@@ -1,5 +1,6 @@
 -- Windows so many units later.
-use Rattle.std.proofs.Common.{Bool, ap, arith, false, inl, inr, le_refl, mod-lt, div-add-mod', subst, true, zero, suc, ℕ, ◌*◌, ◌+◌, ◌-◌, ◌/◌, ◌<◌, ◌∙◌, ◌≡◌, ◌≤◌}
+use Rattle.std.proofs.Common.{Bool, ap, arith, false, inl, inr, le_refl, mod-lt, div-add-mod', subst, true, zero, suc, ℕ, ◌*◌, ◌+◌, ◌-◌, ◌/◌, ◌<◌}
+use Rattle.std.proofs.Common.{◌∙◌, ◌≡◌, ◌≤◌}
 use Rattle.std.proofs.lemmas.Bool.{both_ways, cases_lt}
 use native.Mathlib.Nat.{div-eq_of_lt-le}
 use Rattle.sched_base.specs.Counting.{bit, ticks}
@@ -25,7 +26,8 @@ ticks_later f d (suc n) same =
     omega (arith, s, ih, last)
 
 -- and so between two of them
-pub ticks_between : (f : ℕ → Bool) (d a k : ℕ) → ((m : ℕ) → a ≤ m → m < a + k → f (m + d) ≡ f m) → ticks f (a + k + d) + ticks f a ≡ ticks f (a + d) + ticks f (a + k)
+pub ticks_between : (f : ℕ → Bool) (d a k : ℕ) → ((m : ℕ) → a ≤ m → m < a + k → f (m + d) ≡ f m) → ticks f (a + k + d) + ticks f a ≡ ticks f (a + d) + ticks
+    f (a + k)
 ticks_between f d a zero same =
     let e : a + 0 + d ≡ a + d = omega arith in
     let e' : a + 0 ≡ a = omega arith in
@@ -48,7 +50,8 @@ ticks-le-all f (suc n) = let ih = ticks-le-all f n in let one = bit_le (f n) in 
 
 -- a boundary is where its window begins
 pub begins_here : (b : ℕ → Bool) → HasBoundaries b → (u : ℕ) → b u ≡ true → window_begin b u ≡ u
-begins_here b has u at = same_IsBegin b u (window_begin b u) u (begin_is b has.first u) (record { below = le_refl u; here = at; last = λ v p q. absurd (omega (arith, p, q)) })
+begins_here b has u at = same_IsBegin b u (window_begin b u) u (begin_is b has.first u)
+    (record { below = le_refl u; here = at; last = λ v p q. absurd (omega (arith, p, q)) })
 
 -- above each unit from `from` on there is a boundary within `units`
 abbrev pub AreWithin : (ℕ → Bool) → ℕ → ℕ → Type 0

@@ -1,5 +1,6 @@
 -- The steps of the idle fill.
-use Rattle.std.proofs.Common.{◌≡◌, ℕ, zero, suc, ◌+◌, ◌-◌, ◌*◌, ◌/◌, ◌<◌, ◌≤◌, List, [], ◌∷◌, ◌++◌, length, map, set, take, drop, min, replicate, refl, ap, sym, ap₂, ◌∙◌, arith, ◌⊎◌, inl, inr, add-mul, sub-add_cancel, le_of_lt, mul-le-mul_right}
+use Rattle.std.proofs.Common.{◌≡◌, ℕ, zero, suc, ◌+◌, ◌-◌, ◌*◌, ◌/◌, ◌<◌, ◌≤◌, List, [], ◌∷◌, ◌++◌, length, map, set, take, drop, min, replicate}
+use Rattle.std.proofs.Common.{refl, ap, sym, ap₂, ◌∙◌, arith, ◌⊎◌, inl, inr, add-mul, sub-add_cancel, le_of_lt, mul-le-mul_right}
 use Rattle.std.proofs.lemmas.List.{drop_all, take_all, set-get_or}
 use Rattle.std.proofs.lemmas.List.Sums.{sum_by-cons, sum_by-append}
 use Rattle.std.proofs.lemmas.List.Folds.{sum_by-replicate}
@@ -49,7 +50,8 @@ pub record Filling (scale slack : ℕ) (old new : List Server) (left i : ℕ) : 
   pub full : (left ≡ 0) ⊎ (rate_sum (take i new) ≡ i * scale)
 
 -- where nothing is given, the server stays as it is
-pub given_none : (p : Packed) (i rate : ℕ) → (server_at p.servers i).idle ≡ 0 → rate ≡ 0 → p ≡ record p { servers = set p.servers i (with_idle (server_at p.servers i) rate) }
+pub given_none : (p : Packed) (i rate : ℕ) → (server_at p.servers i).idle ≡ 0 → rate ≡ 0 →
+    p ≡ record p { servers = set p.servers i (with_idle (server_at p.servers i) rate) }
 given_none p i rate plain none =
     let same : with_idle (server_at p.servers i) rate ≡ server_at p.servers i =
     (ap₂ (λ a b. let s : Server = record { rate = a; members = (server_at p.servers i).members; idle = b } in s) (omega (arith, none)) (none ∙ sym plain)) in
@@ -69,7 +71,8 @@ pub Fills-filled : (scale slack : ℕ) (old new : Packed) (left i : ℕ) → Fil
 Fills-filled scale slack old new left i h l =
     sym (ap₂ (λ xs ys. xs ++ filled scale left ys) (take_all i new.servers l) (drop_all i new.servers l)) ∙ h.filling.rest ∙ filled-is scale slack old.servers
 
-pub Fills-full : (scale slack : ℕ) (old new : Packed) (left i : ℕ) → Fills scale slack old new left i → i ≡ length new.servers → (left ≡ 0) ⊎ (rate_sum new.servers ≡ length new.servers * scale)
+pub Fills-full : (scale slack : ℕ) (old new : Packed) (left i : ℕ) → Fills scale slack old new left i → i ≡ length new.servers → (left ≡ 0)
+    ⊎ (rate_sum new.servers ≡ length new.servers * scale)
 Fills-full scale slack old new left i h e = go h.filling.full
   where
     go : (left ≡ 0) ⊎ (rate_sum (take i new.servers) ≡ i * scale) → (left ≡ 0) ⊎ (rate_sum new.servers ≡ length new.servers * scale)
@@ -78,8 +81,10 @@ Fills-full scale slack old new left i h e = go h.filling.full
 
 -- ---- the slack that is left makes whole servers
 
-pub left_is_whole : (scale processors count left : ℕ) (new final : List Server) → rate_sum new ≡ count * scale → 0 < left → rate_sum new + left ≡ processors * scale →
-    final ≡ new ++ replicate (processors - count) (idle_alone scale) → (final ≡ new ++ map idle_alone (replicate (left / scale) scale)) × (rate_sum final ≡ processors * scale)
+pub left_is_whole : (scale processors count left : ℕ) (new final : List Server) → rate_sum new ≡ count * scale → 0 < left →
+    rate_sum new + left ≡ processors * scale →
+    final ≡ new ++ replicate (processors - count) (idle_alone scale) → (final ≡ new ++ map idle_alone (replicate (left / scale) scale))
+    × (rate_sum final ≡ processors * scale)
 left_is_whole scale processors count left new final full some sum made =
     elim (cases_lt count processors) [
       | inr l ↦ absurd (let over = mul-le-mul_right scale l in omega (arith, over, full, sum, some))
@@ -87,9 +92,11 @@ left_is_whole scale processors count left new final full some sum made =
           (let more = processors - count in
           let whole : left ≡ more * scale =
           (let parts = add-mul more count scale in let all = ap (λ n. n * scale) (sub-add_cancel (le_of_lt l)) in omega (arith, full, sum, parts, all)) in
-          let positive : 0 < scale = elim (cases_eq scale 0) [ inl zero_scale ↦ absurd (let e = ap (λ n. more * n) zero_scale in omega (arith, whole, e, some)) | inr differs ↦ omega arith ] in
+          let positive : 0 < scale = elim (cases_eq scale 0)
+          [ inl zero_scale ↦ absurd (let e = ap (λ n. more * n) zero_scale in omega (arith, whole, e, some)) | inr differs ↦ omega arith ] in
           let quotient : left / scale ≡ more = ap (λ n. n / scale) whole ∙ mul-div_cancel more positive in
-          let as_map : replicate more (idle_alone scale) ≡ map idle_alone (replicate (left / scale) scale) = sym (map-replicate more scale) ∙ ap (λ n. map idle_alone (replicate n scale)) (sym quotient) in
+          let as_map : replicate more (idle_alone scale) ≡ map idle_alone (replicate (left / scale) scale) = sym (map-replicate more scale)
+          ∙ ap (λ n. map idle_alone (replicate n scale)) (sym quotient) in
           let total = ap rate_sum made ∙ sum_by-append rate_of new (replicate more (idle_alone scale)) in
           let added = sum_by-replicate rate_of more (idle_alone scale) in
           (made ∙ ap (λ xs. new ++ xs) as_map, omega (arith, total, added, whole, sum)))

@@ -17,7 +17,8 @@ pub named_set : (count : ℕ) (name operands : List ℕ) → Same name (codes "s
 unfolding instruction_named
 named_set count name operands e = sym (cond-true _ _ _ e)
 
-pub named_add : (count : ℕ) (name operands : List ℕ) → Other name (codes "set") → Same name (codes "add") → on_register 1 8 operands ≡ instruction_named count name operands
+pub named_add : (count : ℕ) (name operands : List ℕ) → Other name (codes "set") → Same name (codes "add") → on_register 1 8 operands ≡ instruction_named
+    count name operands
 unfolding instruction_named
 named_add count name operands n0 e = sym (cond-false _ _ _ n0 ∙ cond-true _ _ _ e)
 
@@ -45,17 +46,21 @@ named_jz count targets name operands n e t =
     ap (λ k. on_register 4 k operands) t
     ∙ sym (cond-false _ _ _ n.no_set ∙ (cond-false _ _ _ n.no_add ∙ (cond-false _ _ _ n.no_sub ∙ (cond-false _ _ _ n.no_mul ∙ cond-true _ _ _ e))))
 
-pub named_jump : (count targets : ℕ) (name operands : List ℕ) → NoneOfFour name → Other name (codes "jz") → Same name (codes "jump") → targets ≡ min (2 ^ 32) (count + 1)
+pub named_jump : (count targets : ℕ) (name operands : List ℕ) → NoneOfFour name → Other name (codes "jz") → Same name (codes "jump") →
+    targets ≡ min (2 ^ 32) (count + 1)
     → option_map (word_of 5 0) (operand targets operands) ≡ instruction_named count name operands
 unfolding instruction_named
 named_jump count targets name operands n n4 e t =
     ap (λ k. option_map (word_of 5 0) (operand k operands)) t
-    ∙ sym (cond-false _ _ _ n.no_set ∙ (cond-false _ _ _ n.no_add ∙ (cond-false _ _ _ n.no_sub ∙ (cond-false _ _ _ n.no_mul ∙ (cond-false _ _ _ n4 ∙ cond-true _ _ _ e)))))
+    ∙ sym (cond-false _ _ _ n.no_set ∙ (cond-false _ _ _ n.no_add ∙ (cond-false _ _ _ n.no_sub ∙ (cond-false _ _ _ n.no_mul ∙ (cond-false _ _ _ n4
+    ∙ cond-true _ _ _ e)))))
 
-pub named_none : (count : ℕ) (name operands : List ℕ) → NoneOfFour name → Other name (codes "jz") → Other name (codes "jump") → None ≡ instruction_named count name operands
+pub named_none : (count : ℕ) (name operands : List ℕ) → NoneOfFour name → Other name (codes "jz") → Other name (codes "jump") → None ≡ instruction_named
+    count name operands
 unfolding instruction_named
 named_none count name operands n n4 n5 =
-    sym (cond-false _ _ _ n.no_set ∙ (cond-false _ _ _ n.no_add ∙ (cond-false _ _ _ n.no_sub ∙ (cond-false _ _ _ n.no_mul ∙ (cond-false _ _ _ n4 ∙ cond-false _ _ _ n5)))))
+    sym (cond-false _ _ _ n.no_set ∙ (cond-false _ _ _ n.no_add ∙ (cond-false _ _ _ n.no_sub ∙ (cond-false _ _ _ n.no_mul ∙ (cond-false _ _ _ n4
+    ∙ cond-false _ _ _ n5)))))
 
 pub halt_is : (count : ℕ) (line : List ℕ) → Same line (codes "halt") → Some (word_of 6 0 0) ≡ instruction_of count line
 unfolding instruction_of
@@ -66,7 +71,8 @@ abbrev pub of_words : ℕ → Option (List ℕ × List ℕ) → Option ℕ
 of_words count None = None
 of_words count (Some (name, operands)) = instruction_named count name operands
 
-pub words_are : (count : ℕ) (line : List ℕ) (words : Option (List ℕ × List ℕ)) → Other line (codes "halt") → words ≡ cut_space line → of_words count words ≡ instruction_of count line
+pub words_are : (count : ℕ) (line : List ℕ) (words : Option (List ℕ × List ℕ)) → Other line (codes "halt") → words ≡ cut_space line →
+    of_words count words ≡ instruction_of count line
 unfolding instruction_of
 words_are count line None n e = sym (cond-false _ _ _ n ∙ ap (λ w. option_and_then (λ (p : List ℕ × List ℕ). instruction_named count p.0 p.1) w) (sym e))
 words_are count line (Some p) n e = sym (cond-false _ _ _ n ∙ ap (λ w. option_and_then (λ (p : List ℕ × List ℕ). instruction_named count p.0 p.1) w) (sym e))

@@ -1,5 +1,6 @@
 -- The first line and what follows it, by the place of the first line feed.
-use Rattle.std.proofs.Common.{ℕ, suc, ◌+◌, ◌-◌, ◌<◌, ◌≤◌, ◌≡◌, Bool, true, false, cond, not, List, [], ◌∷◌, length, take, drop, min, sym, refl, ap, ◌∙◌, arith, inl, inr}
+use Rattle.std.proofs.Common.{ℕ, suc, ◌+◌, ◌-◌, ◌<◌, ◌≤◌, ◌≡◌, Bool, true, false, cond, not, List, [], ◌∷◌, length, take, drop, min, sym, refl, ap}
+use Rattle.std.proofs.Common.{◌∙◌, arith, inl, inr}
 use Rattle.std.specs.Prelude.{◌==◌}
 use Rattle.std.proofs.lemmas.List.{take_all, drop_all, length-drop, length-take}
 use Rattle.std.proofs.Math.Nat.{eq-or-lt_of_le}
@@ -55,7 +56,8 @@ feed_within [] = omega arith
 feed_within (b ∷ bs) = within_by (b == 10) (feed_place bs) (length bs) (feed_within bs)
 
 -- the first line, and what follows it, where its length is known
-pub cut_at_feed : (text line : List ℕ) (more : List (List ℕ)) (at : ℕ) → 0 < length text → lines_of text ≡ line ∷ more → at ≡ min (length line + 1) (length text)
+pub cut_at_feed : (text line : List ℕ) (more : List (List ℕ)) (at : ℕ) → 0 < length text → lines_of text ≡ line ∷ more → at ≡ min (length line + 1)
+    (length text)
     → take (length text - at) (drop at text) ≡ after_first (λ b. b == 10) text
 cut_at_feed text line more at some e here =
     let first : line ≡ take (feed_place text) text = cc (lines_first text some) in
@@ -67,4 +69,5 @@ pub lines_cut : (text line : List ℕ) (more : List (List ℕ)) (at : ℕ) → 0
     → lines_of text ≡ line ∷ lines_of (take (length text - at) (drop at text))
 lines_cut text line more at some e here =
     let first : line ≡ take (feed_place text) text = cc (lines_first text some) in
-    lines_first text some ∙ (ap (λ l. l ∷ lines_of (after_first (λ b. b == 10) text)) (sym first) ∙ ap (λ r. line ∷ lines_of r) (sym (cut_at_feed text line more at some e here)))
+    lines_first text some ∙ (ap (λ l. l ∷ lines_of (after_first (λ b. b == 10) text)) (sym first) ∙ ap (λ r. line ∷ lines_of r)
+    (sym (cut_at_feed text line more at some e here)))

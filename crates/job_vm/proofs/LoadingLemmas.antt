@@ -1,5 +1,6 @@
 -- Jobs that are lifted out of their places, loaded, and laid back.
-use Rattle.std.proofs.Common.{ℕ, zero, suc, ◌+◌, ◌<◌, ◌≤◌, ◌≡◌, ◌≢◌, List, [], ◌∷◌, length, get_or, set, take, Option, Some, None, Result, Ok, Err, OnOk, OnErr, option_map, option_and_then, sym, refl, ap, ◌∙◌, subst, arith, inl, inr, add-one}
+use Rattle.std.proofs.Common.{ℕ, zero, suc, ◌+◌, ◌<◌, ◌≤◌, ◌≡◌, ◌≢◌, List, [], ◌∷◌, length, get_or, set, take, Option, Some, None, Result, Ok, Err}
+use Rattle.std.proofs.Common.{OnOk, OnErr, option_map, option_and_then, sym, refl, ap, ◌∙◌, subst, arith, inl, inr, add-one}
 use Rattle.std.specs.Prelude.{slice_get, slice_set}
 use Rattle.std.proofs.lemmas.Bool.{cases_eq}
 use Rattle.std.proofs.lemmas.List.{set-set, map-set, set-get_or}
@@ -57,7 +58,8 @@ pub record AfterLoad {J E : Type 0} (tells : JobTells J) (scale : ℕ) (code : L
   pub left_used : OnErr result (tells.used new ≡ tells.used old)
   pub left_made : OnErr result (tells.made new ≡ tells.made old)
 
-pub loaded_place : {J E : Type 0} (tells : JobTells J) (scale : ℕ) (code : List ℕ) (places : List (Option J)) (i : ℕ) (old new : J) (result : Result (Unit {0}) E)
+pub loaded_place : {J E : Type 0} (tells : JobTells J) (scale : ℕ) (code : List ℕ) (places : List (Option J)) (i : ℕ) (old new : J)
+    (result : Result (Unit {0}) E)
     → JobAt places i old → AfterLoad tells scale code old new result
     → OnOk result ((job : J) → JobAt places i job → seen tells (set places i (Some new))
     ≡ slice_set (seen tells places) i (Some (anew scale code (job_seen tells.id tells.used tells.faults tells.made job))))
@@ -91,7 +93,11 @@ left_place tells scale code places i old new (Err e) at after =
 pub still_filled : {J : Type 0} (places : List (Option J)) (i : ℕ) (old new : J) → JobAt places i old → (k : ℕ) (job : J) → JobAt places k job
     → (now : J) × JobAt (set places i (Some new)) k now
 still_filled places i old new at k job there = elim (cases_eq k i) [
-  | inl same ↦ (new, subst (λ n. slice_get (set places i (Some new)) n ≡ Some (Some new)) (sym same) (at_set_same places i (Some new) (slice_get_within places i (Some old) at)))
+  | inl same ↦ (
+    new,
+    subst (λ n. slice_get (set places i (Some new)) n ≡ Some (Some new)) (sym same) (at_set_same places i (Some new)
+        (slice_get_within places i (Some old) at)),
+  )
   | inr other ↦ (job, at_set_other places i k (Some new) other ∙ there)
 ]
 
@@ -104,7 +110,8 @@ loaded_past scale programs (t ∷ tasks) (job ∷ jobs) zero past = absurd (omeg
 loaded_past scale programs (t ∷ tasks) (job ∷ jobs) (suc i) past = loaded_past scale programs tasks jobs i (omega arith)
 
 -- one task more
-loaded_next : (scale : ℕ) (programs : List Program) (tasks : List Task) (jobs : List (Option JobSeen)) (i : ℕ) (t : Task) (job : JobSeen) → i < length tasks → t ≡ get_or tasks i t
+loaded_next : (scale : ℕ) (programs : List Program) (tasks : List Task) (jobs : List (Option JobSeen)) (i : ℕ) (t : Task) (job : JobSeen) →
+    i < length tasks → t ≡ get_or tasks i t
     → slice_get (loaded scale programs (take i tasks) jobs) i ≡ Some (Some job)
     → set (loaded scale programs (take i tasks) jobs) i (Some (anew scale (code_of programs t.name) job)) ≡ loaded scale programs (take (suc i) tasks) jobs
 loaded_next scale programs [] jobs i t job within at there = absurd (omega arith)
@@ -126,7 +133,8 @@ seen_at tells (place ∷ places) zero job at =
 seen_at tells (place ∷ places) (suc i) job at = seen_at tells places i job at
 
 -- the programs of the tasks before i are loaded, and then that of task i
-pub loaded_more : {J : Type 0} (tells : JobTells J) (scale : ℕ) (programs : List Program) (tasks : List Task) (start now next : List (Option J)) (i : ℕ) (t : Task) (job : J) → i < length tasks → t ≡ get_or tasks i t
+pub loaded_more : {J : Type 0} (tells : JobTells J) (scale : ℕ) (programs : List Program) (tasks : List Task) (start now next : List (Option J)) (i : ℕ)
+    (t : Task) (job : J) → i < length tasks → t ≡ get_or tasks i t
     → seen tells now ≡ loaded scale programs (take i tasks) (seen tells start) → JobAt now i job
     → seen tells next ≡ slice_set (seen tells now) i (Some (anew scale (code_of programs t.name) (job_seen tells.id tells.used tells.faults tells.made job)))
     → seen tells next ≡ loaded scale programs (take (i + 1) tasks) (seen tells start)
@@ -147,6 +155,7 @@ told_in_place tells scale places i job at =
     ap told (seen_at tells places i job at)
 
 -- a place that a job was lifted out of
-pub lifted_place : {J : Type 0} (s t : JobPlaces J) (i : ℕ) (job : J) → JobAt s.places i job → t ≡ record s { places = slice_set s.places i None } → slice_get t.places i ≡ Some None
+pub lifted_place : {J : Type 0} (s t : JobPlaces J) (i : ℕ) (job : J) → JobAt s.places i job → t ≡ record s { places = slice_set s.places i None } →
+    slice_get t.places i ≡ Some None
 lifted_place s t i job at lifted =
     ap (λ (v : JobPlaces _). slice_get v.places i) lifted ∙ at_set_same s.places i None (slice_get_within s.places i (Some job) at)

@@ -18,8 +18,10 @@ and_on true y on both = both
 and_on false y on both = cc
 
 -- no instruction where each of the tests fails
-none_is : (operation a b : ℕ) (m : JobMachine) → (eqb operation 0 && ltb a 8) ≡ false → (eqb operation 1 && (ltb a 8 && ltb b 8)) ≡ false → (eqb operation 2 && (ltb a 8 && ltb b 8)) ≡ false
-    → (eqb operation 3 && (ltb a 8 && ltb b 8)) ≡ false → (eqb operation 4 && ltb a 8) ≡ false → (eqb operation 5 && eqb a 0) ≡ false → m ≡ obeyed operation a b m
+none_is : (operation a b : ℕ) (m : JobMachine) → (eqb operation 0 && ltb a 8) ≡ false → (eqb operation 1 && (ltb a 8 && ltb b 8)) ≡ false →
+    (eqb operation 2 && (ltb a 8 && ltb b 8)) ≡ false
+    → (eqb operation 3 && (ltb a 8 && ltb b 8)) ≡ false → (eqb operation 4 && ltb a 8) ≡ false → (eqb operation 5 && eqb a 0) ≡ false →
+    m ≡ obeyed operation a b m
 unfolding obeyed
 none_is operation a b m e0 e1 e2 e3 e4 e5 =
     sym (cond-false _ _ _ e0 ∙ (cond-false _ _ _ e1 ∙ (cond-false _ _ _ e2 ∙ (cond-false _ _ _ e3 ∙ (cond-false _ _ _ e4 ∙ cond-false _ _ _ e5)))))
@@ -47,9 +49,11 @@ no_second operation a b m low high h =
     (off_and (eqb operation 4) (ltb a 8) not_jz) (off_and (eqb operation 5) (eqb a 0) not_jump)
 
 -- an operation that there isn't, or `halt`
-pub no_operation : (operation a b : ℕ) (m : JobMachine) → operation ≢ 0 → operation ≢ 1 → operation ≢ 2 → operation ≢ 3 → operation ≢ 4 → operation ≢ 5 → m ≡ obeyed operation a b m
+pub no_operation : (operation a b : ℕ) (m : JobMachine) → operation ≢ 0 → operation ≢ 1 → operation ≢ 2 → operation ≢ 3 → operation ≢ 4 → operation ≢ 5 →
+    m ≡ obeyed operation a b m
 no_operation operation a b m n0 n1 n2 n3 n4 n5 =
-    none_is operation a b m (off_and (eqb operation 0) (ltb a 8) (ne_eqb operation 0 n0)) (off_and (eqb operation 1) (ltb a 8 && ltb b 8) (ne_eqb operation 1 n1))
+    none_is operation a b m (off_and (eqb operation 0) (ltb a 8) (ne_eqb operation 0 n0)) (off_and (eqb operation 1) (ltb a 8 && ltb b 8)
+    (ne_eqb operation 1 n1))
     (off_and (eqb operation 2) (ltb a 8 && ltb b 8) (ne_eqb operation 2 n2)) (off_and (eqb operation 3) (ltb a 8 && ltb b 8) (ne_eqb operation 3 n3))
     (off_and (eqb operation 4) (ltb a 8) (ne_eqb operation 4 n4)) (off_and (eqb operation 5) (eqb a 0) (ne_eqb operation 5 n5))
 
@@ -100,13 +104,16 @@ by n operation a b m o = ap (λ p. obeyed p a b m) (sym o)
 pub set_is : (operation a b : ℕ) (m : JobMachine) → operation ≡ 0 → a < 8 → b < 2 ^ 32 → written a b m ≡ obeyed operation a b m
 set_is operation a b m o h l = set_0 a b m h l ∙ by 0 operation a b m o
 
-pub add_is : (operation a b : ℕ) (m : JobMachine) → operation ≡ 1 → a < 8 → b < 8 → put a (slice_index m.registers a + slice_index m.registers b) m ≡ obeyed operation a b m
+pub add_is : (operation a b : ℕ) (m : JobMachine) → operation ≡ 1 → a < 8 → b < 8 → put a (slice_index m.registers a + slice_index m.registers b) m ≡ obeyed
+    operation a b m
 add_is operation a b m o h l = add_1 a b m (two_on a b h l) ∙ by 1 operation a b m o
 
-pub sub_is : (operation a b : ℕ) (m : JobMachine) → operation ≡ 2 → a < 8 → b < 8 → put a (slice_index m.registers a + (2 ^ 64 - slice_index m.registers b)) m ≡ obeyed operation a b m
+pub sub_is : (operation a b : ℕ) (m : JobMachine) → operation ≡ 2 → a < 8 → b < 8 → put a (slice_index m.registers a + (2 ^ 64 - slice_index m.registers b))
+    m ≡ obeyed operation a b m
 sub_is operation a b m o h l = sub_2 a b m (two_on a b h l) ∙ by 2 operation a b m o
 
-pub mul_is : (operation a b : ℕ) (m : JobMachine) → operation ≡ 3 → a < 8 → b < 8 → put a (slice_index m.registers a * slice_index m.registers b) m ≡ obeyed operation a b m
+pub mul_is : (operation a b : ℕ) (m : JobMachine) → operation ≡ 3 → a < 8 → b < 8 → put a (slice_index m.registers a * slice_index m.registers b) m ≡ obeyed
+    operation a b m
 mul_is operation a b m o h l = mul_3 a b m (two_on a b h l) ∙ by 3 operation a b m o
 
 pub zero_is : (operation a b : ℕ) (m : JobMachine) → operation ≡ 4 → a < 8 → slice_index m.registers a ≡ 0 → jump b m ≡ obeyed operation a b m

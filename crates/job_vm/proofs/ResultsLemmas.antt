@@ -13,7 +13,8 @@ use Rattle.job_vm.specs.Seen.{JobSeen}
 ends : (numbers : List ℕ) → line_end (map decimal numbers) ≡ flat_map (λ n. 32 ∷ decimal n) numbers ++ 10 ∷ []
 ends [] = refl
 ends (n ∷ numbers) =
-    ap (λ rest. 32 ∷ (decimal n ++ rest)) (ends numbers) ∙ ap (λ text. 32 ∷ text) (sym (append_assoc (decimal n) (flat_map (λ n. 32 ∷ decimal n) numbers) (10 ∷ [])))
+    ap (λ rest. 32 ∷ (decimal n ++ rest)) (ends numbers) ∙ ap (λ text. 32 ∷ text) (sym (append_assoc (decimal n) (flat_map (λ n. 32 ∷ decimal n) numbers)
+    (10 ∷ [])))
 
 -- a line is its beginning up to the units, then each number, and the line feed
 pub job_line_is : (name : List ℕ) (told : Told)
@@ -25,7 +26,8 @@ job_line_is name told =
     ∙ ap (λ text. codes "job " ++ text) (sym (append_assoc name (32 ∷ decimal told.units) tail))
 
 -- the line that is written of a task is its line
-pub line_of_task : (tasks : List Task) (scale : ℕ) (jobs now : List (Option JobSeen)) (i : ℕ) (t : Task) (name : List ℕ) (told : Told) → i < length tasks → t ≡ get_or tasks i t
+pub line_of_task : (tasks : List Task) (scale : ℕ) (jobs now : List (Option JobSeen)) (i : ℕ) (t : Task) (name : List ℕ) (told : Told) → i < length tasks →
+    t ≡ get_or tasks i t
     → name ≡ t.name → now ≡ jobs → told_at scale now i ≡ told → job_line name told ≡ job_line (task_at tasks i).name (told_at scale jobs i)
 line_of_task tasks scale jobs now i t name told within at named same is =
     let task : t ≡ task_at tasks i = at ∙ get_or_default tasks i t no_task within in

@@ -15,7 +15,8 @@ find_here p (y ∷ xs) zero x within at passes = cond-true (p y) (Some y) (find 
 find_here p (y ∷ xs) (suc i) x within at passes = find_here p xs i x (omega arith) at passes
 
 -- it isn't at this place
-pub find_on : {X : Type 0} (p : X → Bool) (xs : List X) (i : ℕ) (x : X) → i < length xs → x ≡ get_or xs i x → p x ≡ false → find p (drop i xs) ≡ find p (drop (suc i) xs)
+pub find_on : {X : Type 0} (p : X → Bool) (xs : List X) (i : ℕ) (x : X) → i < length xs → x ≡ get_or xs i x → p x ≡ false → find p (drop i xs) ≡ find p
+    (drop (suc i) xs)
 find_on p [] i x within at fails = absurd (omega arith)
 find_on p (y ∷ xs) zero x within at fails = cond-false (p y) (Some y) (find p xs) (ap p (sym at) ∙ fails)
 find_on p (y ∷ xs) (suc i) x within at fails = find_on p xs i x (omega arith) at fails
@@ -31,8 +32,10 @@ find_none p (y ∷ xs) (suc i) past = find_none p xs i (omega arith)
 abbrev pub is_stray : List Task → Program → Bool
 is_stray tasks p = not (list_any (λ t. bytes_eq t.name p.name) tasks)
 
-pub stray_here : (tasks : List Task) (programs : List Program) (i line : ℕ) (p : Program) → find (is_stray tasks) programs ≡ find (is_stray tasks) (drop i programs)
-    → i < length programs → p ≡ get_or programs i p → list_any (λ t. bytes_eq t.name p.name) tasks ≡ false → line ≡ p.line → Some line ≡ first_stray tasks programs
+pub stray_here : (tasks : List Task) (programs : List Program) (i line : ℕ) (p : Program) → find (is_stray tasks) programs ≡ find (is_stray tasks)
+    (drop i programs)
+    → i < length programs → p ≡ get_or programs i p → list_any (λ t. bytes_eq t.name p.name) tasks ≡ false → line ≡ p.line → Some line ≡ first_stray tasks
+    programs
 unfolding first_stray
 stray_here tasks programs i line p before within at fails is =
     ap Some is ∙ sym (ap (option_map (λ (q : Program). q.line)) (before ∙ find_here (is_stray tasks) programs i p within at (ap not fails)))

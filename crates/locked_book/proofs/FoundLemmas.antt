@@ -23,7 +23,8 @@ job_of_task id used made all_made ticks leaf o task job is there own worked agre
     subst (λ l. IsJobOf id used made all_made ticks l o) (sym is) (job, there, record { own = own; worked = worked; agrees = agrees task job is there })
 
 -- a job that goes with a row was made of what the list says
-pub agrees_of : {J : Type 0} (id used : J → ℕ) (made : J → Made) (all_made : List Made) (ticks : ℕ → ℕ) (leaf : Leaf) (o : Option J) → IsJobOf id used made all_made ticks leaf o → Agrees made all_made leaf o
+pub agrees_of : {J : Type 0} (id used : J → ℕ) (made : J → Made) (all_made : List Made) (ticks : ℕ → ℕ) (leaf : Leaf) (o : Option J) →
+    IsJobOf id used made all_made ticks leaf o → Agrees made all_made leaf o
 agrees_of {J} id used made all_made ticks leaf o h task job is there =
     let found : IsJobOf id used made all_made ticks (Task task) o = subst (λ l. IsJobOf id used made all_made ticks l o) is h in
     let same : Some found.0 ≡ Some job = sym found.1 ∙ there in
@@ -40,9 +41,14 @@ pub same_out_row : (rows : List (List Row)) (s : State) (p : ℕ) (r q : Row) �
 same_out_row rows s p r q a b = let same : Some r ≡ Some q = sym a.1 ∙ b.1 in cc
 
 -- a row that a look at a lane and at the first rounds shows is out on the lane
-pub out_row : (rows all : List (List Row)) (s : State) (p lane : ℕ) (look : LaneState) (r q : Row) → AreFirstRounds rows all → p ≡ lane → look ≡ lane_at s.lanes p → look.out ≡ true → RowAt rows p look.posted r → r ≡ q → OutRow all s lane q
+pub out_row : (rows all : List (List Row)) (s : State) (p lane : ℕ) (look : LaneState) (r q : Row) → AreFirstRounds rows all → p ≡ lane →
+    look ≡ lane_at s.lanes p → look.out ≡ true → RowAt rows p look.posted r → r ≡ q → OutRow all s lane q
 out_row rows all s p lane look r q first own seen out at same =
-    let here : OutRow all s p r = (ap (λ (l : LaneState). l.out) (sym seen) ∙ out, subst (λ (l : LaneState). RowAt all p l.posted r) seen (row_of_all rows all first p look.posted r at)) in
+    let here : OutRow all s p r = (
+      ap (λ (l : LaneState). l.out) (sym seen) ∙ out,
+      subst (λ (l : LaneState). RowAt all p l.posted r) seen
+          (row_of_all rows all first p look.posted r at),
+    ) in
     subst (λ n. OutRow all s n q) own (subst (λ (x : Row). OutRow all s p x) same here)
 
 -- where no lane that is there has a row out, none has
@@ -53,7 +59,8 @@ none_out s each p out = elim (below_or p (length s.lanes)) [
 ]
 
 -- the counts of the lanes, one by one
-pub counts_are : (lanes : List LaneState) (counts : List ℕ) → length lanes ≡ length counts → ((q : ℕ) → q < length lanes → (lane_at lanes q).posted ≡ slice_index counts q) → counts_of lanes ≡ counts
+pub counts_are : (lanes : List LaneState) (counts : List ℕ) → length lanes ≡ length counts → ((q : ℕ) → q < length lanes →
+    (lane_at lanes q).posted ≡ slice_index counts q) → counts_of lanes ≡ counts
 counts_are [] [] same each = refl
 counts_are [] (n ∷ counts) same each = absurd (omega (arith, same))
 counts_are (lane ∷ lanes) [] same each = absurd (omega (arith, same))

@@ -41,39 +41,44 @@ waited_within : (rows : List (List Row)) (window : ℕ) (s : State) (p q : ℕ) 
 waited_within rows window s p q (inl (_, lowest)) = lowest.lane
 waited_within rows window s p q (inr (_, (_, _, earlier))) = earlier.lane
 
-module _ {J : Type 0} (id used : J → ℕ) (made : J → Made) (faults : J → ℕ) (all_made : List Made) (seat : Seat) (counts : List ℕ) (old new : BookContents J) where
-  -- a row that is handed out is the seat's next one
-  next_row : IsPlan old.plan → posted_at old.state seat.lane ≡ seat.posted → length counts ≡ length old.plan.set.tasks → (old.state.halted ≡ false → FaultsAre faults old.jobs.places counts)
-      → (row : Row) (job : Option J) → Hands id used made all_made old new seat.lane row job → IsNext id used made faults all_made old.plan seat counts row job
-  next_row lawful count many told row job hands =
-      let rows = plan_rows old.plan in
-      let at : RowAt rows seat.lane seat.posted row = subst (λ k. RowAt rows seat.lane k row) count hands.legal.is_next in
-      record {
-        at = at;
-        own = subst (λ k. IsJobOf id used made all_made (λ t. ticks_before t k rows) row.leaf job) count hands.ready;
-        as_given = λ task j is there.
-            let t = task.0 in
-            let named : is_of_task t row.leaf ≡ true = ap (is_of_task t) is ∙ eq-eqb t t refl in
-            let within : t < length counts = omega (arith, many, names_task old.plan lawful seat.lane seat.posted t row at named) in
-            let was : WasAt old.jobs.places (Task task) job = subst (λ l. WasAt old.jobs.places l job) is hands.own in
-            let same : Some was.0 ≡ Some j = sym was.1 ∙ there in
-            let same' : was.0 ≡ j = cc in
-            ap faults (sym same') ∙ told hands.legal.running t (slice_index counts t) was.0 was.2 (slice_get-get_or counts t 0 within);
-      }
+module _ {J : Type 0} (id used : J → ℕ) (made : J → Made) (faults : J → ℕ) (all_made : List Made) (seat : Seat) (counts : List ℕ) (old new : BookContents J)
+  where
+    -- a row that is handed out is the seat's next one
+    next_row : IsPlan old.plan → posted_at old.state seat.lane ≡ seat.posted → length counts ≡ length old.plan.set.tasks → (old.state.halted ≡ false →
+        FaultsAre faults old.jobs.places counts)
+        → (row : Row) (job : Option J) → Hands id used made all_made old new seat.lane row job → IsNext id used made faults all_made old.plan seat counts
+        row job
+    next_row lawful count many told row job hands =
+        let rows = plan_rows old.plan in
+        let at : RowAt rows seat.lane seat.posted row = subst (λ k. RowAt rows seat.lane k row) count hands.legal.is_next in
+        record {
+          at = at;
+          own = subst (λ k. IsJobOf id used made all_made (λ t. ticks_before t k rows) row.leaf job) count hands.ready;
+          as_given = λ task j is there.
+              let t = task.0 in
+              let named : is_of_task t row.leaf ≡ true = ap (is_of_task t) is ∙ eq-eqb t t refl in
+              let within : t < length counts = omega (arith, many, names_task old.plan lawful seat.lane seat.posted t row at named) in
+              let was : WasAt old.jobs.places (Task task) job = subst (λ l. WasAt old.jobs.places l job) is hands.own in
+              let same : Some was.0 ≡ Some j = sym was.1 ∙ there in
+              let same' : was.0 ≡ j = cc in
+              ap faults (sym same') ∙ told hands.legal.running t (slice_index counts t) was.0 was.2 (slice_get-get_or counts t 0 within);
+        }
 
-  -- what a take on the seat's lane says is what a look gives
-  pub gives : (look : Look J) → IsPlan old.plan → length old.state.lanes ≡ old.plan.tree.processors → posted_at old.state seat.lane ≡ seat.posted → length counts ≡ length old.plan.set.tasks → (old.state.halted ≡ false → FaultsAre faults old.jobs.places counts)
-      → LookMeans id used made all_made old new seat.lane look → TakeGives id used made faults all_made old.plan seat counts look
-  gives (Ready row job) lawful lanes count many told says = next_row lawful count many told row job says
-  gives (NotYet lane posted) lawful lanes count many told says =
-      let behind = says.behind in
-      (subst (λ n. lane < n) lanes (waited_within (plan_rows old.plan) old.window old.state seat.lane lane says.reason), omega (arith, behind, count))
-  gives Done lawful lanes count many told says = sym count ∙ says.1
-  gives Halted lawful lanes count many told says = tt
+    -- what a take on the seat's lane says is what a look gives
+    pub gives : (look : Look J) → IsPlan old.plan → length old.state.lanes ≡ old.plan.tree.processors → posted_at old.state seat.lane ≡ seat.posted →
+        length counts ≡ length old.plan.set.tasks → (old.state.halted ≡ false → FaultsAre faults old.jobs.places counts)
+        → LookMeans id used made all_made old new seat.lane look → TakeGives id used made faults all_made old.plan seat counts look
+    gives (Ready row job) lawful lanes count many told says = next_row lawful count many told row job says
+    gives (NotYet lane posted) lawful lanes count many told says =
+        let behind = says.behind in
+        (subst (λ n. lane < n) lanes (waited_within (plan_rows old.plan) old.window old.state seat.lane lane says.reason), omega (arith, behind, count))
+    gives Done lawful lanes count many told says = sym count ∙ says.1
+    gives Halted lawful lanes count many told says = tt
 
 module _ {J : Type 0} (id used : J → ℕ) (made : J → Made) (all_made : List Made) (seat : Seat) (old new : BookContents J) where
   -- what a worker's take on the seat's lane says is what it gets
-  pub gives_row : (look : Next J) → posted_at old.state seat.lane ≡ seat.posted → SaysNext id used made all_made old new seat.lane look → GivesRow id used made all_made old.plan seat look
+  pub gives_row : (look : Next J) → posted_at old.state seat.lane ≡ seat.posted → SaysNext id used made all_made old new seat.lane look →
+      GivesRow id used made all_made old.plan seat look
   gives_row (next.Ready row job) count hands =
       let rows = plan_rows old.plan in
       record {
@@ -124,14 +129,16 @@ job_of_out id used made all_made rows s lane p ticks row o own out long job r th
     (subst (λ n. IsJobOf id used made all_made (λ t. posted_ticks rows s t + n) row.leaf o) long job)
 
 -- what is known where the row is out on the seat's lane, and the job is that of the row
-module _ {J : Type 0} (id used : J → ℕ) (made : J → Made) (all_made : List Made) (p : PlanContents) (b : BookContents J) (seat : Seat) (row : Row) (job : Option J)
+module _ {J : Type 0} (id used : J → ℕ) (made : J → Made) (all_made : List Made) (p : PlanContents) (b : BookContents J) (seat : Seat) (row : Row)
+    (job : Option J)
     (ticks lane : ℕ) (found : IsOutWith id used made all_made p b seat row job ticks) (own : lane ≡ seat.lane)
   where
     pub out_on : IsOut b.state lane
     out_on = subst (λ n. IsOut b.state n) (sym own) found.found.out.0
 
     pub seat_of : seat ≡ record { lane = lane; posted = posted_at b.state lane }
-    seat_of = let count : seat.posted ≡ posted_at b.state lane = sym found.found.count ∙ ap (λ n. posted_at b.state n) (sym own) in λ i. record { lane = sym own i; posted = count i }
+    seat_of = let count : seat.posted ≡ posted_at b.state lane = sym found.found.count ∙ ap (λ n. posted_at b.state n) (sym own) in
+        λ i. record { lane = sym own i; posted = count i }
 
     -- the job may go back, which has worked the ticks of the row
     pub worked_job : ticks ≡ row.end - row.start → (r : Row) → OutRow (plan_rows b.plan) b.state lane r →
@@ -144,10 +151,12 @@ module _ {J : Type 0} (id used : J → ℕ) (made : J → Made) (all_made : List
     unworked_job none r there =
         subst (λ (q : Row). IsJobOf id used made all_made (λ t. posted_ticks (plan_rows b.plan) b.state t) q.leaf job)
         (same_out_row (plan_rows b.plan) b.state seat.lane row r found.found.out (subst (λ n. OutRow (plan_rows b.plan) b.state n r) own there))
-        (IsJobOf-by id used made all_made (λ t. posted_ticks (plan_rows b.plan) b.state t + ticks) (λ t. posted_ticks (plan_rows b.plan) b.state t) row.leaf job (λ t is. omega (arith, none)) found.own)
+        (IsJobOf-by id used made all_made (λ t. posted_ticks (plan_rows b.plan) b.state t + ticks) (λ t. posted_ticks (plan_rows b.plan) b.state t) row.leaf
+        job (λ t is. omega (arith, none)) found.own)
 
 -- a job goes with a row of a task alone
-pub task_of_job : {J : Type 0} (id used : J → ℕ) (made : J → Made) (all_made : List Made) (ticks : ℕ → ℕ) (leaf : Leaf) (o : Option J) (job : J) → IsJobOf id used made all_made ticks leaf o → o ≡ Some job
+pub task_of_job : {J : Type 0} (id used : J → ℕ) (made : J → Made) (all_made : List Made) (ticks : ℕ → ℕ) (leaf : Leaf) (o : Option J) (job : J) →
+    IsJobOf id used made all_made ticks leaf o → o ≡ Some job
     → (task : TaskId) × (leaf ≡ Task task) × IsTasksJob id used made all_made task.0 (ticks task.0) job
 task_of_job id used made all_made ticks (Task task) o job own there =
     let same : Some own.0 ≡ Some job = sym own.1 ∙ there in
@@ -158,7 +167,8 @@ task_of_job id used made all_made ticks (Idle number) o job own there = absurd (
 task_of_job id used made all_made ticks Empty o job own there = absurd (let e : None ≡ Some job = sym own ∙ there in cc)
 
 -- the job of the next row may work for its ticks
-pub job_may_work : {J : Type 0} (id used : J → ℕ) (made : J → Made) (all_made : List Made) (p : PlanContents) → IsPlan p → (seat : Seat) (row : Row) (o : Option J) → IsNextRow id used made all_made p seat row o → (job : J) → o ≡ Some job → used job + (row.end - row.start) < 2 ^ 127
+pub job_may_work : {J : Type 0} (id used : J → ℕ) (made : J → Made) (all_made : List Made) (p : PlanContents) → IsPlan p → (seat : Seat) (row : Row)
+    (o : Option J) → IsNextRow id used made all_made p seat row o → (job : J) → o ≡ Some job → used job + (row.end - row.start) < 2 ^ 127
 job_may_work id used made all_made p lawful seat row o next job there =
     let own = task_of_job id used made all_made _ row.leaf o job next.own there in
     let worked = own.2.worked in
@@ -166,7 +176,8 @@ job_may_work id used made all_made p lawful seat row o next job there =
     omega (arith, worked, fits)
 
 -- the row that was taken at the seat is out where a row is, and its job may go back, which has worked it
-pub busy_job : {J : Type 0} (id used : J → ℕ) (made : J → Made) (all_made : List Made) (p : PlanContents) (b : BookContents J) (seat : Seat) (row : Row) (o : Option J) (lane : ℕ)
+pub busy_job : {J : Type 0} (id used : J → ℕ) (made : J → Made) (all_made : List Made) (p : PlanContents) (b : BookContents J) (seat : Seat) (row : Row)
+    (o : Option J) (lane : ℕ)
     → StandsAt p b seat true → HasWorked id used made all_made p seat row o → lane ≡ seat.lane → (r : Row) → OutRow (plan_rows b.plan) b.state lane r
     → IsJobOf id used made all_made (λ t. posted_ticks (plan_rows b.plan) b.state t + (r.end - r.start)) r.leaf o
 busy_job id used made all_made p b seat row o lane busy worked own r there =
@@ -178,13 +189,15 @@ busy_job id used made all_made p b seat row o lane busy worked own r there =
     let same : row ≡ r = cc in
     let job : IsJobOf id used made all_made (λ t. ticks_before t seat.posted rows + (r.end - r.start)) r.leaf o =
     subst (λ (x : Row). IsJobOf id used made all_made (λ t. ticks_before t seat.posted rows + (x.end - x.start)) x.leaf o) same
-    (subst (λ x. IsJobOf id used made all_made (λ t. ticks_before t seat.posted (plan_rows x) + (row.end - row.start)) row.leaf o) (sym busy.plan) worked.own) in
+    (subst (λ x. IsJobOf id used made all_made (λ t. ticks_before t seat.posted (plan_rows x) + (row.end - row.start)) row.leaf o) (sym busy.plan)
+    worked.own) in
     IsJobOf-by id used made all_made (λ t. ticks_before t seat.posted rows + (r.end - r.start)) (λ t. posted_ticks rows b.state t + (r.end - r.start)) r.leaf o
     (λ t is. let ticks = ticks_of-out rows b.window b.state (plan_table b.plan busy.lawful) busy.reached t seat.lane r out is in
     ap (λ n. n + (r.end - r.start)) (sym (ticks ∙ ap (λ k. ticks_before t k rows) busy.count))) job
 
 -- the job that goes with a row has worked these ticks more
-pub job_worked : {J : Type 0} (id used : J → ℕ) (made : J → Made) (all_made : List Made) (ticks : ℕ → ℕ) (more : ℕ) (leaf : Leaf) (old new : Option J) → (old ≡ None → new ≡ None)
+pub job_worked : {J : Type 0} (id used : J → ℕ) (made : J → Made) (all_made : List Made) (ticks : ℕ → ℕ) (more : ℕ) (leaf : Leaf) (old new : Option J) →
+    (old ≡ None → new ≡ None)
     → ((j : J) → old ≡ Some j → (k : J) × (new ≡ Some k) × (id k ≡ id j)) → ((k : J) → new ≡ Some k → (j : J) × (old ≡ Some j) × (made k ≡ made j))
     → ((j k : J) → old ≡ Some j → new ≡ Some k → used k ≡ used j + more)
     → IsJobOf id used made all_made ticks leaf old → IsJobOf id used made all_made (λ t. ticks t + more) leaf new

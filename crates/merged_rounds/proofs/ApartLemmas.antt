@@ -40,7 +40,8 @@ module _ (t : Tree) (p : ℕ) (ids : List NodeId) (are : numbers ids ≡ members
   }
 
   -- one of several
-  pub apart_one : (first second : ℕ) → NoIdle t (numbers ids) 0 first → NoIdle t (numbers ids) (first + 1) second → second ≡ length ids → length ids ≢ 1 → IsApartAt t p
+  pub apart_one : (first second : ℕ) → NoIdle t (numbers ids) 0 first → NoIdle t (numbers ids) (first + 1) second → second ≡ length ids → length ids ≢ 1 →
+      IsApartAt t p
   apart_one first second before after all many = record {
     one = λ j k lj lk on other.
         let at : (m : ℕ) → m < length (members t p) → is_idle (leaf t (member t p m)) ≡ true → m ≡ first =

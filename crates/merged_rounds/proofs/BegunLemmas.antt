@@ -1,5 +1,6 @@
 -- Merged rows as they begin, one row more, and how they are read.
-use Rattle.std.proofs.Common.{◌≡◌, ℕ, zero, suc, ◌+◌, ◌<◌, inl, inr, List, [], ◌∷◌, ◌++◌, length, map, get_or, slice_get, Some, None, eqb, eq-eqb, refl, sym, ap, ◌∙◌, arith}
+use Rattle.std.proofs.Common.{◌≡◌, ℕ, zero, suc, ◌+◌, ◌<◌, inl, inr, List, [], ◌∷◌, ◌++◌, length, map, get_or, slice_get, Some, None, eqb, eq-eqb}
+use Rattle.std.proofs.Common.{refl, sym, ap, ◌∙◌, arith}
 use Rattle.std.proofs.lemmas.Bool.{ne_eqb}
 use Rattle.std.proofs.lemmas.Bool.Decides.{eqb_tells}
 use Rattle.sched_base.specs.declared.rows.Leaf.{Leaf}
@@ -38,7 +39,8 @@ length-rows_up_to p end (b ∷ []) = refl
 length-rows_up_to p end (b ∷ (c ∷ lane)) = ap suc (length-rows_up_to p end (c ∷ lane))
 
 -- the lane of processor p
-pub lane_up_to : (a end : ℕ) (lanes : List (List Begun)) (p : ℕ) → p < length lanes → lane_of (lanes_up_to a end lanes) p ≡ rows_up_to (a + p) end (get_or lanes p [])
+pub lane_up_to : (a end : ℕ) (lanes : List (List Begun)) (p : ℕ) → p < length lanes → lane_of (lanes_up_to a end lanes) p ≡ rows_up_to (a + p) end
+    (get_or lanes p [])
 lane_up_to a end [] p within = absurd (omega (arith, within))
 lane_up_to a end (lane ∷ lanes) zero within = let e : a ≡ a + 0 = omega arith in ap (λ n. rows_up_to n end lane) e
 lane_up_to a end (lane ∷ lanes) (suc p) within =
@@ -71,7 +73,8 @@ rows_tell p end (b ∷ (c ∷ lane)) = ap (λ xs. b ∷ xs) (rows_tell p end (c 
 
 lanes_tell : (a end : ℕ) (lanes : List (List Begun)) → map (map begin_of) (lanes_up_to a end lanes) ≡ lanes
 lanes_tell a end [] = refl
-lanes_tell a end (lane ∷ lanes) = ap (λ x. x ∷ map (map begin_of) (lanes_up_to (a + 1) end lanes)) (rows_tell a end lane) ∙ ap (λ xs. lane ∷ xs) (lanes_tell (a + 1) end lanes)
+lanes_tell a end (lane ∷ lanes) = ap (λ x. x ∷ map (map begin_of) (lanes_up_to (a + 1) end lanes)) (rows_tell a end lane) ∙ ap (λ xs. lane ∷ xs)
+    (lanes_tell (a + 1) end lanes)
 
 -- so the same rows begin alike
 pub same_begun : (end : ℕ) (a b : List (List Begun)) → lanes_up_to 0 end a ≡ lanes_up_to 0 end b → a ≡ b

@@ -1,5 +1,6 @@
 -- The last rounds of a schedule that stands as a while before: the merged rows of that while come again.
-use Rattle.std.proofs.Common.{◌≡◌, ℕ, zero, suc, ◌+◌, ◌-◌, ◌<◌, ◌≤◌, ◌&&◌, inl, inr, true, false, List, [], ◌∷◌, ◌++◌, length, get_or, le_refl, length-set, set, slice_get, take, None, Some, eqb, refl, sym, ap, subst, ◌∙◌, arith}
+use Rattle.std.proofs.Common.{◌≡◌, ℕ, zero, suc, ◌+◌, ◌-◌, ◌<◌, ◌≤◌, ◌&&◌, inl, inr, true, false, List, [], ◌∷◌, ◌++◌, length, get_or, le_refl}
+use Rattle.std.proofs.Common.{length-set, set, slice_get, take, None, Some, eqb, refl, sym, ap, subst, ◌∙◌, arith}
 use Rattle.std.specs.Prelude.{ltb}
 use Rattle.std.proofs.lemmas.Bool.{cases_Bool, cases_lt, cases_eq, cond-true, cond-false, eqb-true, le-ltb, lt-ltb}
 use Rattle.std.proofs.lemmas.List.{set-set, take_all, take_more}
@@ -25,7 +26,8 @@ use Rattle.merged_rounds.proofs.LapLemmas.{event_later, leaf_is, leaf_later}
 -- where one shows a leaf, its last row shows that
 mark_showing : (lane : List Begun) (start : ℕ) (leaf : Leaf) → last_mark (showing lane start leaf) ≡ shown leaf + 1
 mark_showing lane start leaf = elim (cases_Bool (shows_last lane leaf)) [
-  | inl on ↦ ap last_mark (cond-true (shows_last lane leaf) lane (lane ++ new_row start leaf ∷ []) on) ∙ eqb-true (last_mark lane) (shown leaf + 1) (shows_by_mark lane leaf ∙ on)
+  | inl on ↦ ap last_mark (cond-true (shows_last lane leaf) lane (lane ++ new_row start leaf ∷ []) on) ∙ eqb-true (last_mark lane) (shown leaf + 1)
+      (shows_by_mark lane leaf ∙ on)
   | inr off ↦ ap last_mark (cond-false (shows_last lane leaf) lane (lane ++ new_row start leaf ∷ []) off) ∙ mark_pushed lane start leaf
 ]
 
@@ -64,7 +66,8 @@ some_within : (w : Window) (b : Begun) → w.from < b.start → b.start < w.unti
 some_within w b low high = ap (λ x. x && ltb b.start w.until) (lt-ltb w.from b.start low) ∙ lt-ltb b.start w.until high
 
 -- so that one comes again
-pub copy_within : (w : Window) (lane : List Begun) (b : Begun) → w.from < b.start → b.start < w.until → copy_on w lane b ≡ showing lane (b.start + w.ticks) b.leaf
+pub copy_within : (w : Window) (lane : List Begun) (b : Begun) → w.from < b.start → b.start < w.until → copy_on w lane b ≡ showing lane (b.start + w.ticks)
+    b.leaf
 copy_within w lane b low high = cond-true (is_within w b) (showing lane (b.start + w.ticks) b.leaf) lane (some_within w b low high)
 
 -- and those don't
@@ -75,7 +78,8 @@ pub copy_behind : (w : Window) (lane : List Begun) (b : Begun) → w.until ≤ b
 copy_behind w lane b l = cond-false (is_within w b) (showing lane (b.start + w.ticks) b.leaf) lane (none_behind w b l)
 
 -- what is shown outside of the window doesn't come again
-copied_out : (w : Window) (base lane : List Begun) (n : ℕ) (x : Leaf) → is_within w (new_row n x) ≡ false → copied w base (showing lane n x) ≡ copied w base lane
+copied_out : (w : Window) (base lane : List Begun) (n : ℕ) (x : Leaf) → is_within w (new_row n x) ≡ false → copied w base (showing lane n x) ≡ copied w base
+    lane
 copied_out w base lane n x out = elim (cases_Bool (shows_last lane x)) [
   | inl on ↦ ap (copied w base) (stays lane n x on)
   | inr off ↦ ap (copied w base) (begins lane n x off) ∙ copied_more w base lane (new_row n x)
@@ -93,7 +97,8 @@ module _ (p : PlanContents) (q : ℕ) where
   begun_off n off = cond-false (event_at p n) (showing (begun_before p q n) n (leaf_from p n q)) (begun_before p q n) off
 
   -- what begins at a tick outside of the window doesn't come again
-  out_next : (w : Window) (base : List Begun) (n : ℕ) → is_within w (new_row n (leaf_from p n q)) ≡ false → copied w base (begun_before p q (suc n)) ≡ copied w base (begun_before p q n)
+  out_next : (w : Window) (base : List Begun) (n : ℕ) → is_within w (new_row n (leaf_from p n q)) ≡ false → copied w base (begun_before p q (suc n))
+      ≡ copied w base (begun_before p q n)
   out_next w base n out = elim (cases_Bool (event_at p n)) [
     | inl on ↦ ap (copied w base) (begun_on n on) ∙ copied_out w base (begun_before p q n) n (leaf_from p n q) out
     | inr off ↦ ap (copied w base) (begun_off n off)
@@ -102,7 +107,8 @@ module _ (p : PlanContents) (q : ℕ) where
   -- up to the window nothing comes again
   before_window : (w : Window) (base : List Begun) (n : ℕ) → n ≤ suc w.from → copied w base (begun_before p q n) ≡ base
   before_window w base zero l = refl
-  before_window w base (suc n) l = out_next w base n (none_before w (new_row n (leaf_from p n q)) (omega (arith, l))) ∙ before_window w base n (omega (arith, l))
+  before_window w base (suc n) l = out_next w base n (none_before w (new_row n (leaf_from p n q)) (omega (arith, l))) ∙ before_window w base n
+      (omega (arith, l))
 
   -- nor does more behind it
   behind_window : (w : Window) (base : List Begun) (k n : ℕ) → n ≡ k + w.until → copied w base (begun_before p q n) ≡ copied w base (begun_before p q w.until)
@@ -121,14 +127,17 @@ record Follows (p : PlanContents) (q : ℕ) (w : Window) (base : List Begun) (n 
   pub same : begun_before p q m ≡ copied w base (begun_before p q n)
   pub last : last_mark (begun_before p q m) ≡ last_mark (begun_before p q n)
 
-module _ (p : PlanContents) (h : IsPlan p) (can : CanComeRound p) (w : Window) (again : ComesAgain p w.from w.ticks) (until : w.until + w.ticks ≡ stop_of p) (q : ℕ) (in_tree : q < p.tree.processors) where
+module _ (p : PlanContents) (h : IsPlan p) (can : CanComeRound p) (w : Window) (again : ComesAgain p w.from w.ticks) (until : w.until + w.ticks ≡ stop_of p)
+    (q : ℕ) (in_tree : q < p.tree.processors) where
   -- it shows the same so many ticks later
   leaf_again : (none : Row) (n : ℕ) → w.from ≤ n → n + w.ticks < stop_of p → leaf_from p (n + w.ticks) q ≡ leaf_from p n q
   leaf_again none n low l =
-      sym (leaf_is p (n + w.ticks) (n + 1) q none in_tree) ∙ leaf_later p h can w.from w.ticks again n (n + 1) (n + 1) q none low l in_tree ∙ leaf_is p n (n + 1) q none in_tree
+      sym (leaf_is p (n + w.ticks) (n + 1) q none in_tree) ∙ leaf_later p h can w.from w.ticks again n (n + 1) (n + 1) q none low l in_tree
+      ∙ leaf_is p n (n + 1) q none in_tree
 
   -- one tick more of the window
-  step : (base : List Begun) (none : Row) (n : ℕ) → w.from < n → n + w.ticks < stop_of p → Follows p q w base n (n + w.ticks) → Follows p q w base (suc n) (suc (n + w.ticks))
+  step : (base : List Begun) (none : Row) (n : ℕ) → w.from < n → n + w.ticks < stop_of p → Follows p q w base n (n + w.ticks) → Follows p q w base (suc n)
+      (suc (n + w.ticks))
   step base none n low l f = elim (cases_Bool (event_at p n)) [
     | inr off ↦ (let off' = there ∙ off in
         record {
@@ -137,10 +146,12 @@ module _ (p : PlanContents) (h : IsPlan p) (can : CanComeRound p) (w : Window) (
         })
     | inl on ↦
         (let on' = there ∙ on in
-        let now : begun_before p q (suc m) ≡ showing (begun_before p q m) m x = begun_on p q m on' ∙ ap (showing (begun_before p q m) m) (leaf_again none n (omega (arith, low)) l) in
+        let now : begun_before p q (suc m) ≡ showing (begun_before p q m) m x = begun_on p q m on' ∙ ap (showing (begun_before p q m) m)
+        (leaf_again none n (omega (arith, low)) l) in
         record {
           same = now ∙ shows now ∙ ap (copied w base) (sym (begun_on p q n on));
-          last = ap last_mark now ∙ mark_showing (begun_before p q m) m x ∙ sym (mark_showing (begun_before p q n) n x) ∙ ap last_mark (sym (begun_on p q n on));
+          last = ap last_mark now ∙ mark_showing (begun_before p q m) m x ∙ sym (mark_showing (begun_before p q n) n x)
+              ∙ ap last_mark (sym (begun_on p q n on));
         })
   ]
     where
@@ -184,7 +195,8 @@ module _ (p : PlanContents) (h : IsPlan p) (can : CanComeRound p) (w : Window) (
         record {
           same = begun_on p q now on ∙ sym (before_window p q w base (suc w.from) (omega arith));
           last = ap last_mark (begun_on p q now on) ∙ mark_showing (begun_before p q now) now (leaf_from p now q)
-              ∙ ap (λ x. shown x + 1) same ∙ sym (mark_showing (begun_before p q w.from) w.from (leaf_from p w.from q)) ∙ ap last_mark (sym (begun_on p q w.from first_on));
+              ∙ ap (λ x. shown x + 1) same ∙ sym (mark_showing (begun_before p q w.from) w.from (leaf_from p w.from q))
+              ∙ ap last_mark (sym (begun_on p q w.from first_on));
         }
 
     -- and all ticks of it
@@ -198,7 +210,8 @@ module _ (p : PlanContents) (h : IsPlan p) (can : CanComeRound p) (w : Window) (
         let e' : suc n' ≡ n = omega (arith, e) in
         let f' : suc (n' + w.ticks) ≡ m = omega (arith, e, f) in
         let before = follows k n' (n' + w.ticks) refl refl (omega (arith, l, f')) in
-        subst (λ (j : ℕ). Follows p q w base n j) f' (subst (λ (i : ℕ). Follows p q w base i (suc (n' + w.ticks))) e' (step base none n' (omega arith) (omega (arith, l, f')) before))
+        subst (λ (j : ℕ). Follows p q w base n j) f' (subst (λ (i : ℕ). Follows p q w base i (suc (n' + w.ticks))) e' (step base none n' (omega arith)
+        (omega (arith, l, f')) before))
 
     -- all rows of the processor
     pub copied_all : copied_from w now (begun_before p q now) (leaf_from p now q) ≡ begun_before p q (stop_of p)
@@ -213,13 +226,15 @@ module _ (p : PlanContents) (h : IsPlan p) (can : CanComeRound p) (w : Window) (
 -- ---- one processor
 
 -- the lane that is read
-pub lane_read : (end : ℕ) (begun : List (List Begun)) (lanes : List (List Row)) (q : ℕ) → lanes ≡ lanes_up_to 0 end begun → q < length begun → lane_of lanes q ≡ rows_up_to q end (get_or begun q [])
+pub lane_read : (end : ℕ) (begun : List (List Begun)) (lanes : List (List Row)) (q : ℕ) → lanes ≡ lanes_up_to 0 end begun → q < length begun →
+    lane_of lanes q ≡ rows_up_to q end (get_or begun q [])
 lane_read end begun lanes q is l =
     let e : 0 + q ≡ q = omega arith in
     ap (λ ls. lane_of ls q) is ∙ lane_up_to 0 end begun q l ∙ ap (λ n. rows_up_to n end (get_or begun q [])) e
 
 -- and row i of it
-pub row_read : (end : ℕ) (begun : List (List Begun)) (lanes : List (List Row)) (q i : ℕ) (r : Row) (b : Begun) → lanes ≡ lanes_up_to 0 end begun → q < length begun → slice_get (lane_of lanes q) i ≡ Some r →
+pub row_read : (end : ℕ) (begun : List (List Begun)) (lanes : List (List Row)) (q i : ℕ) (r : Row) (b : Begun) → lanes ≡ lanes_up_to 0 end begun →
+    q < length begun → slice_get (lane_of lanes q) i ≡ Some r →
     slice_get (get_or begun q []) i ≡ Some b → b ≡ new_row r.start r.leaf
 row_read end begun lanes q i r b is l at there =
     let row : slice_get (rows_up_to q end (get_or begun q [])) i ≡ Some r = ap (λ rows. slice_get rows i) (sym (lane_read end begun lanes q is l)) ∙ at in
@@ -247,7 +262,8 @@ showing_keeps lane start leaf k b at = elim (cases_Bool (shows_last lane leaf)) 
 -- so do those of a window
 copy_keeps : (w : Window) (lane : List Begun) (x : Begun) (k : ℕ) (b : Begun) → slice_get lane k ≡ Some b → slice_get (copy_on w lane x) k ≡ Some b
 copy_keeps w lane x k b at = elim (cases_Bool (is_within w x)) [
-  | inl on ↦ ap (λ rows. slice_get rows k) (cond-true (is_within w x) (showing lane (x.start + w.ticks) x.leaf) lane on) ∙ showing_keeps lane (x.start + w.ticks) x.leaf k b at
+  | inl on ↦ ap (λ rows. slice_get rows k) (cond-true (is_within w x) (showing lane (x.start + w.ticks) x.leaf) lane on) ∙ showing_keeps lane
+      (x.start + w.ticks) x.leaf k b at
   | inr off ↦ ap (λ rows. slice_get rows k) (cond-false (is_within w x) (showing lane (x.start + w.ticks) x.leaf) lane off) ∙ at
 ]
 
@@ -285,11 +301,13 @@ module _ (first : List (List Begun)) (q : ℕ) (w : Window) (l : q < length firs
       pub row_within : i < length (get_or lanes q [])
       row_within = slice_get_within (get_or lanes q []) i (get_or own i none_begun) row_there
 
-      pub copied_next : (lanes' : List (List Begun)) → lanes' ≡ set lanes q (copy_on w (get_or lanes q []) (get_or own i none_begun)) → IsCopiedTo lanes' (i + 1)
+      pub copied_next : (lanes' : List (List Begun)) → lanes' ≡ set lanes q (copy_on w (get_or lanes q []) (get_or own i none_begun)) →
+          IsCopiedTo lanes' (i + 1)
       copied_next lanes' is =
           let b = get_or own i none_begun in
           is ∙ ap (λ ls. set ls q (copy_on w (get_or lanes q []) b)) h ∙ set-set first q (copied w own (take i own)) (copy_on w (get_or lanes q []) b)
-          ∙ ap (set first q) (ap (λ lane. copy_on w lane b) own_now ∙ sym (copied_more w own (take i own) b) ∙ ap (copied w own) (sym (take_more own i none_begun m)))
+          ∙ ap (set first q) (ap (λ lane. copy_on w lane b) own_now ∙ sym (copied_more w own (take i own) b) ∙ ap (copied w own)
+          (sym (take_more own i none_begun m)))
 
   pub copied_end : (lanes : List (List Begun)) (i : ℕ) → length own ≤ i → IsCopiedTo lanes i → lanes ≡ set first q (copied w own own)
   copied_end lanes i all h = h ∙ ap (λ rows. set first q (copied w own rows)) (take_all i own all)
@@ -302,14 +320,16 @@ module _ (p : PlanContents) (now : ℕ) (w : Window) (first : List (List Begun))
 
   -- what one processor shows at first, and then its rows
   pub are_next : (lanes then lanes' : List (List Begun)) (n : ℕ) (leaf : Leaf) → AreCopied p now w first lanes n → n < length first → leaf_from p now n ≡ leaf →
-      then ≡ set lanes n (showing (get_or lanes n []) now leaf) → lanes' ≡ set then n (copied w (get_or then n []) (get_or then n [])) → AreCopied p now w first lanes' (n + 1)
+      then ≡ set lanes n (showing (get_or lanes n []) now leaf) → lanes' ≡ set then n (copied w (get_or then n []) (get_or then n [])) →
+      AreCopied p now w first lanes' (n + 1)
   are_next lanes then lanes' n leaf h l is shows copies = record {
     long = ap length whole ∙ length-set lanes n (copied w base base) ∙ h.long;
     each = λ q m. elim (cases_eq q n) [
       | inl same ↦ ap (λ k. get_or lanes' k []) same ∙ here ∙ ap (λ k. copied_from w now (get_or first k []) (leaf_from p now k)) (sym same)
       | inr ne ↦ ap (λ ls. get_or ls q []) whole ∙ set_other lanes n q (copied w base base) [] ne ∙ h.each q (omega (arith, m, ne))
     ];
-    rest = λ q m. ap (λ ls. get_or ls q []) whole ∙ set_other lanes n q (copied w base base) [] (λ e. absurd (omega (arith, m, e))) ∙ h.rest q (omega (arith, m));
+    rest = λ q m. ap (λ ls. get_or ls q []) whole ∙ set_other lanes n q (copied w base base) [] (λ e. absurd (omega (arith, m, e)))
+        ∙ h.rest q (omega (arith, m));
   }
     where
       base : List Begun

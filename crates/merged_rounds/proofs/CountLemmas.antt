@@ -1,5 +1,6 @@
 -- How many rounds begin before a tick, and how that number comes again.
-use Rattle.std.proofs.Common.{◌≡◌, ℕ, zero, suc, ◌+◌, ◌++◌, ◌-◌, ◌*◌, ◌/◌, ◌%◌, ◌<◌, ◌≤◌, Bool, true, inl, inr, min, filter, length, length-append, ap, arith, refl, ◌∙◌, zero-add, mul-le-mul_left, mul-le-mul_right, mod-lt, div-add-mod'}
+use Rattle.std.proofs.Common.{◌≡◌, ℕ, zero, suc, ◌+◌, ◌++◌, ◌-◌, ◌*◌, ◌/◌, ◌%◌, ◌<◌, ◌≤◌, Bool, true, inl, inr, min, filter, length, length-append}
+use Rattle.std.proofs.Common.{ap, arith, refl, ◌∙◌, zero-add, mul-le-mul_left, mul-le-mul_right, mod-lt, div-add-mod'}
 use Rattle.std.specs.List.{range_with_len}
 use Rattle.std.proofs.lemmas.Bool.{cases_Bool, cases_lt}
 use Rattle.std.proofs.lemmas.List.Elements.{filter-append}
@@ -13,11 +14,13 @@ use Rattle.merged_rounds.specs.Laps.{AreTurns, CanComeRound}
 use Rattle.merged_rounds.proofs.LapLemmas.{event_later}
 
 -- as many numbers pass that stand so much later, where each passes that does before
-count_later : (f : ℕ → Bool) (d a n : ℕ) → ((i : ℕ) → a ≤ i → i < a + n → f (i + d) ≡ f i) → length (filter f (range_with_len (a + d) n)) ≡ length (filter f (range_with_len a n))
+count_later : (f : ℕ → Bool) (d a n : ℕ) → ((i : ℕ) → a ≤ i → i < a + n → f (i + d) ≡ f i) → length (filter f (range_with_len (a + d) n)) ≡ length
+    (filter f (range_with_len a n))
 count_later f d a zero same = refl
 count_later f d a (suc n) same =
     let next : a + d + 1 ≡ a + 1 + d = omega arith in
-    let ih = ap (λ z. length (filter f (range_with_len z n))) next ∙ count_later f d (a + 1) n (λ i low high. same i (omega (arith, low)) (omega (arith, high))) in
+    let ih = ap (λ z. length (filter f (range_with_len z n))) next ∙ count_later f d (a + 1) n (λ i low high. same i (omega (arith, low))
+    (omega (arith, high))) in
     let here = same a (omega arith) (omega arith) in
     elim (cases_Bool (f a)) [
       | inl on ↦
@@ -93,7 +96,8 @@ module _ (p : PlanContents) (h : IsPlan p) (can : CanComeRound p) (ticks : ℕ) 
   events_again n l = count_later (event_at p) ticks 1 n (λ i low high. event_later p h can ticks turns i (omega (arith, low)) (omega (arith, high, l)))
 
   -- so many hyperperiods have so many times their rounds
-  pub rounds_again : (times n : ℕ) → n + times * ticks < stop_of p → rounds_before p (1 + n + times * ticks) + times ≡ times * rounds_before p (1 + ticks) + rounds_before p (1 + n)
+  pub rounds_again : (times n : ℕ) → n + times * ticks < stop_of p → rounds_before p (1 + n + times * ticks) + times ≡ times * rounds_before p
+      (1 + ticks) + rounds_before p (1 + n)
   rounds_again zero n l = let e : 1 + n + 0 * ticks ≡ 1 + n = omega arith in let at = ap (rounds_before p) e in omega (arith, at)
   rounds_again (suc times) n l =
       let m = n + times * ticks in

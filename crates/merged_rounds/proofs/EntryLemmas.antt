@@ -1,5 +1,6 @@
 -- Packs show what entries tell, one after another.
-use Rattle.std.proofs.Common.{◌≡◌, ◌≢◌, ℕ, ◌+◌, ◌<◌, ◌≤◌, ◌&&◌, not, inl, inr, Bool, List, [], ◌∷◌, length, length-append, set, get_or, Option, None, refl, sym, ap, ap₂, subst, ◌∙◌, arith, length-set}
+use Rattle.std.proofs.Common.{◌≡◌, ◌≢◌, ℕ, ◌+◌, ◌<◌, ◌≤◌, ◌&&◌, not, inl, inr, Bool, List, [], ◌∷◌, length, length-append, set, get_or, Option, None}
+use Rattle.std.proofs.Common.{refl, sym, ap, ap₂, subst, ◌∙◌, arith, length-set}
 use Rattle.std.proofs.lemmas.Bool.{cases_eq, cases_lt}
 use Rattle.std.proofs.lemmas.List.{get_or-map, length-map}
 use Rattle.sched_base.specs.declared.rows.Leaf.{Leaf}
@@ -10,7 +11,8 @@ use Rattle.merged_rounds.proofs.ChangeLemmas.{set_other, set_same}
 use Rattle.merged_rounds.proofs.ReplayLemmas.{few_begun, few_stopped, noted_by, noted_none, noted_skip, noted_step}
 
 -- the pack of an entry between these places, and what it shows
-module _ (es : List PackShows) (low high many j : ℕ) (ordered : AreOrdered (packs_in es) low high many) (l : j < high) (e : PackShows) (is : e ≡ get_or es j e) where
+module _ (es : List PackShows) (low high many j : ℕ) (ordered : AreOrdered (packs_in es) low high many) (l : j < high) (e : PackShows)
+    (is : e ≡ get_or es j e) where
   there : j < length es
   there = let w = ordered.within in let same = length-map es (λ (x : PackShows). x.pack) in omega (arith, w, same, l)
 
@@ -21,7 +23,8 @@ module _ (es : List PackShows) (low high many j : ℕ) (ordered : AreOrdered (pa
   shown_there = ap (λ (x : PackShows). x.shown) is ∙ sym (get_or-map (λ (x : PackShows). x.shown) es j e None there)
 
 -- the entries from place `low` up to j are taken: packs below a number are noted, and the others show what they did
-pub record AreTakenTo (packs : List ℕ) (shown : List (Option Leaf)) (low high : ℕ) (before now : List (Option Leaf)) (j : ℕ) (changes : ChangeLists) : Type 0 where
+pub record AreTakenTo (packs : List ℕ) (shown : List (Option Leaf)) (low high : ℕ) (before now : List (Option Leaf)) (j : ℕ) (changes : ChangeLists) : Type
+    0 where
   pub upto : ℕ
   pub noted : AreNotedTo before now upto changes
   pub later : (k : ℕ) → upto ≤ k → get_or now k None ≡ get_or before k None
@@ -33,7 +36,8 @@ pub record AreTakenTo (packs : List ℕ) (shown : List (Option Leaf)) (low high 
   pub long : length now ≡ length before
 
 module _ (packs : List ℕ) (shown : List (Option Leaf)) (low high : ℕ) (before : List (Option Leaf)) where
-  pub taken_none : (c : ChangeLists) → c.seen ≡ [] → c.stopped ≡ [] → c.begun ≡ [] → c.room ≡ length before → AreTakenTo packs shown low high before before low c
+  pub taken_none : (c : ChangeLists) → c.seen ≡ [] → c.stopped ≡ [] → c.begun ≡ [] → c.room ≡ length before → AreTakenTo packs shown low high before before
+      low c
   taken_none c seen stopped begun room =
       let none = ap (λ (xs : List ℕ). length xs) seen in
       record {
@@ -48,7 +52,8 @@ module _ (packs : List ℕ) (shown : List (Option Leaf)) (low high : ℕ) (befor
         long = refl;
       }
 
-  module _ (now : List (Option Leaf)) (j : ℕ) (c : ChangeLists) (a : AreTakenTo packs shown low high before now j c) (ordered : AreOrdered packs low high (length before)) (up : low ≤ j) (l : j < high) where
+  module _ (now : List (Option Leaf)) (j : ℕ) (c : ChangeLists) (a : AreTakenTo packs shown low high before now j c) (ordered : AreOrdered packs low high
+      (length before)) (up : low ≤ j) (l : j < high) where
     abbrev k : ℕ
     k = get_or packs j 0
 
@@ -113,7 +118,8 @@ module _ (packs : List ℕ) (shown : List (Option Leaf)) (low high : ℕ) (befor
         noted = noted_step before now' k c c' listed.seen
             (listed.stopped ∙ ap₂ (λ (x y : Bool). with_pack c.stopped k (not x && y)) (ap is_some (sym here)) (ap is_some was))
             (listed.begun ∙ ap₂ (λ (x y : Bool). with_pack c.begun k (x && not y)) (ap is_some (sym here)) (ap is_some was))
-            (noted_skip before now' a.upto k c (a.next l) (λ i above under. other i (λ e. omega (arith, e, under)) ∙ a.later i above) (noted_by before now now' a.upto c below a.noted));
+            (noted_skip before now' a.upto k c (a.next l) (λ i above under. other i (λ e. omega (arith, e, under)) ∙ a.later i above)
+            (noted_by before now now' a.upto c below a.noted));
         later = λ q m. (let n = a.next l in other q (λ e. omega (arith, e, m)) ∙ a.later q (omega (arith, n, m)));
         next = λ m. (let o = ordered.order j up m in omega (arith, o));
         many = (let i = in_level in omega (arith, i));
@@ -131,5 +137,6 @@ module _ (packs : List ℕ) (shown : List (Option Leaf)) (low high : ℕ) (befor
           was : get_or now k None ≡ get_or before k None
           was = a.later k (a.next l)
 
-  pub taken_all : (now : List (Option Leaf)) (j : ℕ) (c : ChangeLists) → AreTakenTo packs shown low high before now j c → AreNotedTo before now (length before) c
+  pub taken_all : (now : List (Option Leaf)) (j : ℕ) (c : ChangeLists) → AreTakenTo packs shown low high before now j c →
+      AreNotedTo before now (length before) c
   taken_all now j c a = noted_skip before now a.upto (length before) c a.many (λ k above under. a.later k above) a.noted

@@ -1,5 +1,6 @@
 -- The number of all rounds, by those of a hyperperiod that are kept.
-use Rattle.std.proofs.Common.{◌≡◌, ℕ, zero, suc, ◌+◌, ◌-◌, ◌*◌, ◌/◌, ◌%◌, ◌<◌, ◌≤◌, inl, inr, List, [], ◌∷◌, length, get_or, true, ap, sym, ◌∙◌, arith, mul-le-mul_right}
+use Rattle.std.proofs.Common.{◌≡◌, ℕ, zero, suc, ◌+◌, ◌-◌, ◌*◌, ◌/◌, ◌%◌, ◌<◌, ◌≤◌, inl, inr, List, [], ◌∷◌, length, get_or, true, ap, sym, ◌∙◌}
+use Rattle.std.proofs.Common.{arith, mul-le-mul_right}
 use Rattle.sched_base.proofs.ListLemmas.{passing_on}
 use Rattle.run_tree.specs.Plans.{IsPlan, PlanContents, rounds_of, stop_of}
 use Rattle.event_core.specs.Rounds.{IsRoundUpTo, event_at, rounds_before}
@@ -46,7 +47,8 @@ module _ (p : PlanContents) (ends : List ℕ) (round : (i : ℕ) → i < length 
       let before = starts_count j (omega (arith, within)) in
       omega (arith, one, before)
 
-module _ (p : PlanContents) (h : IsPlan p) (can : CanComeRound p) (kept : Turn) (is : IsTurnOf p kept) (turns : AreTurns p (turn_end kept)) (early : turn_end kept < stop_of p) where
+module _ (p : PlanContents) (h : IsPlan p) (can : CanComeRound p) (kept : Turn) (is : IsTurnOf p kept) (turns : AreTurns p (turn_end kept))
+    (early : turn_end kept < stop_of p) where
   pub some_kept : 0 < length kept.ends
   some_kept = some kept.ends (some_ticks p h (turn_end kept) turns)
     where
@@ -58,7 +60,8 @@ module _ (p : PlanContents) (h : IsPlan p) (can : CanComeRound p) (kept : Turn) 
   last_event : event_at p (turn_end kept) ≡ true
   last_event = last kept.ends some_kept early is.turn.round
     where
-      last : (ends : List ℕ) → 0 < length ends → round_start 0 ends (length ends) < stop_of p → ((i : ℕ) → i < length ends → IsRoundUpTo p (round_start 0 ends i) (get_or ends i 0)) →
+      last : (ends : List ℕ) → 0 < length ends → round_start 0 ends (length ends) < stop_of p → ((i : ℕ) → i < length ends →
+          IsRoundUpTo p (round_start 0 ends i) (get_or ends i 0)) →
           event_at p (round_start 0 ends (length ends)) ≡ true
       last [] some soon round = absurd (omega (arith, some))
       last (e ∷ ends) some soon round = elim ((round (length ends) (omega arith)).last) [
@@ -66,7 +69,8 @@ module _ (p : PlanContents) (h : IsPlan p) (can : CanComeRound p) (kept : Turn) 
         | inr on ↦ on
       ]
 
-  pub all_by_kept : (turn last rest : ℕ) → turn ≡ turn_end kept → last ≡ stop_of p - 1 → 0 < rest → rest ≤ length kept.ends → round_start 0 kept.ends (rest - 1) < last % turn + 1 →
+  pub all_by_kept : (turn last rest : ℕ) → turn ≡ turn_end kept → last ≡ stop_of p - 1 → 0 < rest → rest ≤ length kept.ends → round_start 0 kept.ends
+      (rest - 1) < last % turn + 1 →
       last % turn + 1 ≤ round_start 0 kept.ends rest → rounds_of p ≡ last / turn * length kept.ends + rest
   all_by_kept turn last rest e f some within low high =
       let count = starts_count p kept.ends is.turn.round (length kept.ends) (omega arith) in
@@ -75,7 +79,8 @@ module _ (p : PlanContents) (h : IsPlan p) (can : CanComeRound p) (kept : Turn) 
       let all = all_rounds_by p h can (turn_end kept) turns (some_ticks p h (turn_end kept) turns) (omega (arith, early)) in
       let begun = count_before p kept.ends is.turn.round rest (last % turn + 1) some within low high in
       let times : (stop_of p - 1) / turn_end kept * (rounds_before p (turn_end kept + 1) - 1) ≡ last / turn * length kept.ends =
-      ap (λ n. (stop_of p - 1) / turn_end kept * n) each ∙ ap (λ n. n / turn_end kept * length kept.ends) (sym f) ∙ ap (λ n. last / n * length kept.ends) (sym e) in
+      ap (λ n. (stop_of p - 1) / turn_end kept * n) each ∙ ap (λ n. n / turn_end kept * length kept.ends) (sym f) ∙ ap (λ n. last / n * length kept.ends)
+      (sym e) in
       let rests : rounds_before p ((stop_of p - 1) % turn_end kept + 1) ≡ rounds_before p (last % turn + 1) =
       ap (λ n. rounds_before p (n % turn_end kept + 1)) (sym f) ∙ ap (λ n. rounds_before p (last % n + 1)) (sym e) in
       omega (arith, all, begun, times, rests)

@@ -1,5 +1,7 @@
 -- Rounds that come again show the same.
-use Rattle.std.proofs.Common.{◌≡◌, ℕ, suc, ◌+◌, ◌-◌, ◌*◌, ◌%◌, ◌/◌, ◌<◌, ◌≤◌, ◌^◌, inl, inr, min, List, [], ◌∷◌, ◌++◌, length, length-append, get_or, slice_get, Option, None, Some, true, false, sym, ap, subst, ◌∙◌, arith, mul-le-mul_right, le_of_lt, le_refl, div-add-mod'}
+use Rattle.std.proofs.Common.{◌≡◌, ℕ, suc, ◌+◌, ◌-◌, ◌*◌, ◌%◌, ◌/◌, ◌<◌, ◌≤◌, ◌^◌, inl, inr, min, List, [], ◌∷◌, ◌++◌, length, length-append, get_or}
+use Rattle.std.proofs.Common.{slice_get, Option, None, Some, true, false, sym, ap, subst, ◌∙◌, arith, mul-le-mul_right, le_of_lt, le_refl}
+use Rattle.std.proofs.Common.{div-add-mod'}
 use Rattle.std.proofs.Math.ListN.{get_or-append}
 use Rattle.std.proofs.Math.Nat.{dvd-add}
 use Rattle.std.proofs.Math.Seq.{get_or-append_seam}
@@ -35,7 +37,8 @@ use Rattle.round_looks.specs.Looks.{leaf_at}
 -- ---- what is told of all processors
 
 -- a row of a round shows what its processor does
-pub row_shows : (p : PlanContents) (start end q : ℕ) (r : Row) → slice_get (rows_of_round p start end) q ≡ Some r → (q < p.tree.processors) × (r.leaf ≡ leaf_at p start end q r)
+pub row_shows : (p : PlanContents) (start end q : ℕ) (r : Row) → slice_get (rows_of_round p start end) q ≡ Some r → (q < p.tree.processors)
+    × (r.leaf ≡ leaf_at p start end q r)
 row_shows p start end q r at =
     let rows = rows_of_round p start end in
     let l = slice_get_within rows q r at in
@@ -44,7 +47,8 @@ row_shows p start end q r at =
     let e' : r ≡ get_or rows q r = cc in
     (omega (arith, l, long), ap (λ (x : Row). x.leaf) e')
 
-pub told_all : (p : PlanContents) (start end : ℕ) (told : List (Option Leaf)) (lanes : List (List Row)) → IsAllTold p start end told → AreChangesTold lanes told (rows_of_round p start end)
+pub told_all : (p : PlanContents) (start end : ℕ) (told : List (Option Leaf)) (lanes : List (List Row)) → IsAllTold p start end told →
+    AreChangesTold lanes told (rows_of_round p start end)
 told_all p start end told lanes all = record {
   long = length-round p.set.tasks p.tree start end ∙ sym all.long;
   some = λ q r leaf at is.
@@ -60,7 +64,8 @@ told_all p start end told lanes all = record {
 -- ---- what a round shows doesn't hang on its end
 
 pub leaf_is : (p : PlanContents) (start end q : ℕ) (none : Row) → q < p.tree.processors →
-    leaf_at p start end q none ≡ shown p.set.tasks p.tree.scale start (leaf_on (set_boundary p.set.tasks) p.tree start (get_or (onto_at (set_boundary p.set.tasks) p.tree start) q None))
+    leaf_at p start end q none ≡ shown p.set.tasks p.tree.scale start (leaf_on (set_boundary p.set.tasks) p.tree start
+    (get_or (onto_at (set_boundary p.set.tasks) p.tree start) q None))
 leaf_is p start end q none l =
     let rows = rows_of_round p start end in
     let long = length-round p.set.tasks p.tree start end in
@@ -74,7 +79,8 @@ both_whole [] m n h k = tt
 both_whole (t ∷ tasks) m n h k = (dvd-add t.period h.0 k.0, both_whole tasks m n h.1 k.1)
 
 -- what ends before all rounds do is early enough for the laws
-pub before_limit : (p : PlanContents) (h : IsPlan p) (ticks : ℕ) (turns : AreTurns p ticks) (n : ℕ) → n + ticks < stop_of p → n + 2 * (turns.units * p.tree.scale) < 2 ^ 33 * p.tree.scale
+pub before_limit : (p : PlanContents) (h : IsPlan p) (ticks : ℕ) (turns : AreTurns p ticks) (n : ℕ) → n + ticks < stop_of p →
+    n + 2 * (turns.units * p.tree.scale) < 2 ^ 33 * p.tree.scale
 before_limit p h ticks turns n l =
     let most : p.set.horizon * p.tree.scale ≤ 2 ^ 32 * p.tree.scale = mul-le-mul_right p.tree.scale (le_of_lt h.lawful.horizon_fits) in
     let e = turns.are in
@@ -84,10 +90,12 @@ before_limit p h ticks turns n l =
 module _ (p : PlanContents) (h : IsPlan p) (ticks : ℕ) (turns : AreTurns p ticks) (start : ℕ) (r : Recurs p.set.tasks p.tree turns.units start) where
   -- later ticks are events again
   pub event_by : (n : ℕ) → start < n → n + ticks < stop_of p → event_at p (n + ticks) ≡ event_at p n
-  event_by n some l = subst (λ (d : ℕ). event_at p (n + d) ≡ event_at p n) (sym turns.are) (event_again p.set.tasks p.tree turns.units start r n some (before_limit p h ticks turns n l))
+  event_by n some l = subst (λ (d : ℕ). event_at p (n + d) ≡ event_at p n) (sym turns.are) (event_again p.set.tasks p.tree turns.units start r n some
+      (before_limit p h ticks turns n l))
 
   -- rounds begin and end at the same ticks, up to the end of all
-  pub round_by : (from end : ℕ) → start ≤ from → event_at p (from + ticks) ≡ true → from + ticks < stop_of p → IsRoundUpTo p from end → IsRoundUpTo p (from + ticks) (min (end + ticks) (stop_of p))
+  pub round_by : (from end : ℕ) → start ≤ from → event_at p (from + ticks) ≡ true → from + ticks < stop_of p → IsRoundUpTo p from end →
+      IsRoundUpTo p (from + ticks) (min (end + ticks) (stop_of p))
   round_by from end after begins l round =
       let up = round.above in
       record {
@@ -97,7 +105,8 @@ module _ (p : PlanContents) (h : IsPlan p) (ticks : ℕ) (turns : AreTurns p tic
         quiet = λ n low high.
             let e : n - ticks + ticks ≡ n = omega (arith, low) in
             subst (λ (m : ℕ). event_at p m ≡ false) e
-            (event_by (n - ticks) (omega (arith, low, after)) (omega (arith, e, low, high)) ∙ round.quiet (n - ticks) (omega (arith, low)) (omega (arith, low, high)));
+            (event_by (n - ticks) (omega (arith, low, after)) (omega (arith, e, low, high)) ∙ round.quiet (n - ticks) (omega (arith, low))
+            (omega (arith, low, high)));
         last = elim (cases_lt (end + ticks) (stop_of p)) [
           | inl low ↦
               (let e : end + ticks ≡ min (end + ticks) (stop_of p) = omega (arith, low) in
@@ -110,7 +119,8 @@ module _ (p : PlanContents) (h : IsPlan p) (ticks : ℕ) (turns : AreTurns p tic
       }
 
   -- where the places are the same again, a processor shows the same
-  pub leaf_by : (from : ℕ) → start ≤ from → places_of p (from + ticks) ≡ places_of p from → (begin end to q : ℕ) (none : Row) → from ≤ begin → begin + ticks < stop_of p → q < p.tree.processors →
+  pub leaf_by : (from : ℕ) → start ≤ from → places_of p (from + ticks) ≡ places_of p from → (begin end to q : ℕ) (none : Row) → from ≤ begin →
+      begin + ticks < stop_of p → q < p.tree.processors →
       leaf_at p (begin + ticks) to q none ≡ leaf_at p begin end q none
   leaf_by from after places begin end to q none low l in_tree =
       let d = turns.units * p.tree.scale in
@@ -120,9 +130,11 @@ module _ (p : PlanContents) (h : IsPlan p) (ticks : ℕ) (turns : AreTurns p tic
       let rows = round_later p.set.tasks p.tree turns.units start r from (begin + 1) after (omega (arith, s)) same begin end low (omega arith) in
       let long = length-round p.set.tasks p.tree begin end in
       let there : leaf_at p (begin + d) (end + d) q none ≡ leaf_at p begin end q none =
-      ap (λ (rs : List Row). (get_or rs q none).leaf) rows ∙ ap (λ (x : Row). x.leaf) (get_or-map (later d) (rows_of_round p begin end) q none none (omega (arith, in_tree, long))) in
+      ap (λ (rs : List Row). (get_or rs q none).leaf) rows ∙ ap (λ (x : Row). x.leaf) (get_or-map (later d) (rows_of_round p begin end) q none none
+      (omega (arith, in_tree, long))) in
       leaf_is p (begin + ticks) to q none in_tree
-      ∙ ap (λ d. shown p.set.tasks p.tree.scale (begin + d) (leaf_on (set_boundary p.set.tasks) p.tree (begin + d) (get_or (onto_at (set_boundary p.set.tasks) p.tree (begin + d)) q None))) e
+      ∙ ap (λ d. shown p.set.tasks p.tree.scale (begin + d) (leaf_on (set_boundary p.set.tasks) p.tree (begin + d)
+      (get_or (onto_at (set_boundary p.set.tasks) p.tree (begin + d)) q None))) e
       ∙ sym (leaf_is p (begin + d) (end + d) q none in_tree) ∙ there
 
 -- without offsets what is left comes again from tick 0 on
@@ -144,16 +156,20 @@ module _ (p : PlanContents) (h : IsPlan p) (can : CanComeRound p) (ticks : ℕ) 
   event_later n some l = event_by p h ticks turns 0 (recurs n l) n some l
 
   -- rounds begin and end at the same ticks, up to the end of all
-  pub next_round_at : (start end : ℕ) → event_at p (start + ticks) ≡ true → start + ticks < stop_of p → IsRoundUpTo p start end → IsRoundUpTo p (start + ticks) (min (end + ticks) (stop_of p))
+  pub next_round_at : (start end : ℕ) → event_at p (start + ticks) ≡ true → start + ticks < stop_of p → IsRoundUpTo p start end →
+      IsRoundUpTo p (start + ticks) (min (end + ticks) (stop_of p))
   next_round_at start end begins l r = round_by p h ticks turns 0 (recurs start l) start end (omega arith) begins l r
 
 module _ (p : PlanContents) (h : IsPlan p) (can : CanComeRound p) (from ticks : ℕ) (again : ComesAgain p from ticks) where
   -- a processor shows the same
-  pub leaf_later : (start end to q : ℕ) (none : Row) → from ≤ start → start + ticks < stop_of p → q < p.tree.processors → leaf_at p (start + ticks) to q none ≡ leaf_at p start end q none
-  leaf_later start end to q none low l in_tree = leaf_by p h ticks again.turns 0 (recurs p h can ticks again.turns start l) from (omega arith) again.places start end to q none low l in_tree
+  pub leaf_later : (start end to q : ℕ) (none : Row) → from ≤ start → start + ticks < stop_of p → q < p.tree.processors → leaf_at p (start + ticks) to q
+      none ≡ leaf_at p start end q none
+  leaf_later start end to q none low l in_tree = leaf_by p h ticks again.turns 0 (recurs p h can ticks again.turns start l) from (omega arith) again.places
+      start end to q none low l in_tree
 
   -- and rounds begin and end at the same ticks, up to the end of all
-  pub next_round : (start end : ℕ) → 0 < start → start + ticks < stop_of p → IsRoundUpTo p start end → IsRoundUpTo p (start + ticks) (min (end + ticks) (stop_of p))
+  pub next_round : (start end : ℕ) → 0 < start → start + ticks < stop_of p → IsRoundUpTo p start end → IsRoundUpTo p (start + ticks)
+      (min (end + ticks) (stop_of p))
   next_round start end some l r = next_round_at p h can ticks again.turns start end (event_later p h can ticks again.turns start some l ∙ r.event) l r
 
 -- some of them, and some more
@@ -196,7 +212,8 @@ pub recurs_from : (p : PlanContents) (from ticks : ℕ) (again : StandsLaterAgai
 recurs_from p from ticks again = recurs_by p.set p.tree again.turns.units from again.left
 
 -- where it stands again after a lap it does so after one more
-pub next_lap : (p : PlanContents) → IsPlan p → (from ticks shift : ℕ) → StandsLaterAgain p from ticks → StandsLaterAgain p from shift → from + (shift + ticks) < stop_of p → StandsLaterAgain p from (shift + ticks)
+pub next_lap : (p : PlanContents) → IsPlan p → (from ticks shift : ℕ) → StandsLaterAgain p from ticks → StandsLaterAgain p from shift →
+    from + (shift + ticks) < stop_of p → StandsLaterAgain p from (shift + ticks)
 next_lap p h from ticks shift lap again l =
     let d = again.turns.units * p.tree.scale in
     let c = lap.turns.units * p.tree.scale in
@@ -212,7 +229,8 @@ next_lap p h from ticks shift lap again l =
     let at' : from + (shift + ticks) ≡ from + ticks + shift = omega arith in
     let some = lap.turns.some in
     let scaled = h.tree.tree.scaled in
-    let past : from < from + ticks = (let m : 1 * p.tree.scale ≤ lap.turns.units * p.tree.scale = mul-le-mul_right p.tree.scale some in omega (arith, m, f, scaled)) in
+    let past : from < from + ticks = (let m : 1 * p.tree.scale ≤ lap.turns.units * p.tree.scale = mul-le-mul_right p.tree.scale some in
+    omega (arith, m, f, scaled)) in
     record {
       turns = turns;
       left = record {
@@ -266,7 +284,8 @@ module _ (p : PlanContents) (from start end : ℕ) (ends : List ℕ) (all told :
         (let m = p.tree.processors in
         let e : length ends ≡ i = omega (arith, l, high) in
         let at : length all + q ≡ length ends * m + q = ap (λ n. n + q) lap.long in
-        subst (λ (k : ℕ). get_or (all ++ told) (k * m + q) None ≡ Some (leaf_at p (round_start from (ends ++ end ∷ []) k) (get_or (ends ++ end ∷ []) k 0) q none)) e
+        subst (λ (k : ℕ). get_or (all ++ told) (k * m + q) None ≡ Some (leaf_at p (round_start from (ends ++ end ∷ []) k) (get_or (ends ++ end ∷ []) k 0) q
+        none)) e
         (ap (λ n. get_or (all ++ told) n None) (sym at) ∙ get_or-append-add all told q None ∙ is.each q none in_tree
         ∙ ap (λ s. Some (leaf_at p s end q none)) (sym start_here)
         ∙ ap (λ e. Some (leaf_at p (round_start from (ends ++ end ∷ []) (length ends)) e q none)) (sym end_here)))
@@ -326,7 +345,8 @@ last_start from end ends = ap (λ i. round_start from (ends ++ end ∷ []) i) (l
 -- ---- a round of a lap, later
 
 module _ (p : PlanContents) (h : IsPlan p) (from ticks : ℕ) (again : StandsLaterAgain p from ticks)
-    (ends : List ℕ) (all : List (Option Leaf)) (lap : IsLap p from ends all) (i : ℕ) (in_lap : i < length ends) (soon : round_start from ends i + ticks < stop_of p) where
+    (ends : List ℕ) (all : List (Option Leaf)) (lap : IsLap p from ends all) (i : ℕ) (in_lap : i < length ends) (soon : round_start from ends
+    i + ticks < stop_of p) where
   pub lap_round : IsRoundUpTo p (round_start from ends i + ticks) (min (get_or ends i 0 + ticks) (stop_of p))
   lap_round =
       let low = lap.later i (omega (arith, in_lap)) in
@@ -339,15 +359,18 @@ module _ (p : PlanContents) (h : IsPlan p) (from ticks : ℕ) (again : StandsLat
       round_by p h ticks again.turns from r at (get_or ends i 0) low begins soon (lap.round i in_lap)
 
   pub lap_told : (to : ℕ) (told : List (Option Leaf)) → length told ≡ p.tree.processors →
-      ((q : ℕ) → q < p.tree.processors → get_or told q None ≡ get_or all (i * p.tree.processors + q) None) → IsAllTold p (round_start from ends i + ticks) to told
+      ((q : ℕ) → q < p.tree.processors → get_or told q None ≡ get_or all (i * p.tree.processors + q) None) → IsAllTold p (round_start from ends i + ticks)
+      to told
   lap_told to told long is = record {
     long = long;
     each = λ q none l. is q l ∙ lap.told i q none in_lap l
-        ∙ ap Some (sym (leaf_by p h ticks again.turns from (recurs_from p from ticks again) from (le_refl from) again.places (round_start from ends i) (get_or ends i 0) to q none (lap.later i (omega (arith, in_lap))) soon l));
+        ∙ ap Some (sym (leaf_by p h ticks again.turns from (recurs_from p from ticks again) from (le_refl from) again.places (round_start from ends i)
+        (get_or ends i 0) to q none (lap.later i (omega (arith, in_lap))) soon l));
   }
 
 -- behind the end of all rounds there are no more
-pub lap_over : (p : PlanContents) (from : ℕ) (ends : List ℕ) (all : List (Option Leaf)) → IsLap p from ends all → (i ticks : ℕ) → i < length ends → stop_of p ≤ round_start from ends i + ticks →
+pub lap_over : (p : PlanContents) (from : ℕ) (ends : List ℕ) (all : List (Option Leaf)) → IsLap p from ends all → (i ticks : ℕ) → i < length ends →
+    stop_of p ≤ round_start from ends i + ticks →
     min (round_start from ends i + ticks) (stop_of p) ≡ min (round_start from ends (i + 1) + ticks) (stop_of p)
 lap_over p from ends all lap i ticks l past =
     let up = (lap.round i l).above in
@@ -357,7 +380,8 @@ lap_over p from ends all lap i ticks l past =
 -- ---- where the schedule stands alike
 
 -- a lap that ends before all rounds ends where a round begins
-pub lap_event : (p : PlanContents) (from : ℕ) (ends : List ℕ) (all : List (Option Leaf)) → IsLap p from ends all → (end : ℕ) → round_start from ends (length ends) ≡ end →
+pub lap_event : (p : PlanContents) (from : ℕ) (ends : List ℕ) (all : List (Option Leaf)) → IsLap p from ends all → (end : ℕ) →
+    round_start from ends (length ends) ≡ end →
     from < end → end < stop_of p → event_at p end ≡ true
 lap_event p from [] all lap end at some early = absurd (omega (arith, at, some))
 lap_event p from (e ∷ es) all lap end at some early = elim ((lap.round (length es) (omega arith)).last) [
@@ -366,7 +390,8 @@ lap_event p from (e ∷ es) all lap end at some early = elim ((lap.round (length
 ]
 
 -- where it stands alike so many hyperperiods later, it stands again
-pub stands_again : (p : PlanContents) → IsPlan p → IdlesApart p.tree → (from ticks : ℕ) → AreTurns p ticks → AllReleased p from → StandsAlike p from (from + ticks) →
+pub stands_again : (p : PlanContents) → IsPlan p → IdlesApart p.tree → (from ticks : ℕ) → AreTurns p ticks → AllReleased p from →
+    StandsAlike p from (from + ticks) →
     event_at p (from + ticks) ≡ true → from + ticks < stop_of p → StandsLaterAgain p from ticks
 stands_again p h apart from ticks turns released alike on l = record {
   turns = turns;
@@ -390,7 +415,8 @@ stands_again p h apart from ticks turns released alike on l = record {
 
 -- so a lap comes again behind which it stands alike
 pub lap_again : (p : PlanContents) → IsPlan p → IdlesApart p.tree → (from ticks tick before after : ℕ) (rounds : Lap) → AreTurns p ticks → AllReleased p from →
-    from + ticks < stop_of p → 0 < ticks → from ≡ tick → before ≡ tick → after ≡ from + ticks → StandsAlike p before after → IsLapFrom p tick rounds → lap_end tick rounds ≡ after →
+    from + ticks < stop_of p → 0 < ticks → from ≡ tick → before ≡ tick → after ≡ from + ticks → StandsAlike p before after → IsLapFrom p tick rounds →
+    lap_end tick rounds ≡ after →
     IsLapAgain p (record { from = from; ticks = ticks }) rounds
 lap_again p h apart from ticks tick before after rounds turns released early some at was end alike lap ends =
     let here : IsLapFrom p from rounds = subst (λ (n : ℕ). IsLapFrom p n rounds) (sym at) lap in

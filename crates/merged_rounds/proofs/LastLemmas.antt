@@ -1,5 +1,6 @@
 -- The merged rows of a plan as they begin, round by round, and those of the last rounds where they come again.
-use Rattle.std.proofs.Common.{◌≡◌, ℕ, zero, suc, ◌+◌, ◌-◌, ◌*◌, ◌<◌, ◌≤◌, inl, inr, true, false, List, [], ◌∷◌, length, map, get_or, replicate, None, Some, refl, sym, ap, subst, ◌∙◌, arith, zero-add}
+use Rattle.std.proofs.Common.{◌≡◌, ℕ, zero, suc, ◌+◌, ◌-◌, ◌*◌, ◌<◌, ◌≤◌, inl, inr, true, false, List, [], ◌∷◌, length, map, get_or, replicate, None}
+use Rattle.std.proofs.Common.{Some, refl, sym, ap, subst, ◌∙◌, arith, zero-add}
 use Rattle.std.specs.List.{range_with_len}
 use Rattle.std.proofs.lemmas.Bool.{cases_Bool, cases_lt}
 use Rattle.std.proofs.lemmas.List.{ext_get_or}
@@ -68,14 +69,16 @@ none_at_first p n a (suc k) = ap (λ lanes. [] ∷ lanes) (none_at_first p n (a 
 -- ---- one round
 
 -- in a round a processor shows one leaf
-still : (p : PlanContents) (q start end : ℕ) → IsRoundUpTo p start end → (k n : ℕ) → n ≡ suc (start + k) → n ≤ end → begun_before p q n ≡ showing (begun_before p q start) start (leaf_from p start q)
+still : (p : PlanContents) (q start end : ℕ) → IsRoundUpTo p start end → (k n : ℕ) → n ≡ suc (start + k) → n ≤ end → begun_before p q n ≡ showing
+    (begun_before p q start) start (leaf_from p start q)
 still p q start end round zero n e l = let f : n ≡ suc start = omega (arith, e) in ap (begun_before p q) f ∙ begun_on p q start round.event
 still p q start end round (suc k) n e l =
     let m = suc (start + k) in
     let f : n ≡ suc m = omega (arith, e) in
     ap (begun_before p q) f ∙ begun_off p q m (round.quiet m (omega arith) (omega (arith, l, f))) ∙ still p q start end round k m refl (omega (arith, l, f))
 
-shown_in_round : (p : PlanContents) (q start end : ℕ) → IsRoundUpTo p start end → begun_before p q end ≡ showing (begun_before p q start) start (leaf_from p start q)
+shown_in_round : (p : PlanContents) (q start end : ℕ) → IsRoundUpTo p start end → begun_before p q end ≡ showing (begun_before p q start) start
+    (leaf_from p start q)
 shown_in_round p q start end round = let up = round.above in still p q start end round (end - suc start) end (omega (arith, up)) (omega arith)
 
 -- the rounds up to a tick: their merged rows, as they begin, and what is known of their table
@@ -105,19 +108,23 @@ module _ (p : PlanContents) (h : IsPlan p) (start end : ℕ) (round : IsRoundUpT
         each = λ q r at. (let s = row_shows p start end q r at in leaf_in p start end q r s.0 ∙ ap (λ (x : Leaf). Some x) (sym s.1));
         rest = λ q r at none.
             let s = row_shows p start end q r at in
-            absurd (none q (let long = length-range_with_len 0 p.tree.processors in omega (arith, long, s.0)) (get_or-range_with_len 0 p.tree.processors q 0 s.0 ∙ zero-add q));
+            absurd (none q (let long = length-range_with_len 0 p.tree.processors in omega (arith, long, s.0)) (get_or-range_with_len 0 p.tree.processors q 0
+            s.0 ∙ zero-add q));
       }
 
-  all_going : AreGoingOn (all_before p start) start (range_with_len 0 p.tree.processors) (leaves_in p start end) (all_before p end) (length (range_with_len 0 p.tree.processors))
+  all_going : AreGoingOn (all_before p start) start (range_with_len 0 p.tree.processors) (leaves_in p start end) (all_before p end)
+      (length (range_with_len 0 p.tree.processors))
   all_going = record {
     long = long_before p end ∙ sym (long_before p start);
     each = λ q l.
         let none : Row = record { processor = 0; start = 0; end = 0; leaf = Empty } in
         let long = long_before p start in
         let in_tree : q < p.tree.processors = omega (arith, l, long) in
-        let told : get_or (leaves_in p start end) q None ≡ Some (leaf_from p start q) = leaf_in p start end q none in_tree ∙ ap (λ (x : Leaf). Some x) (leaf_is p start end q none in_tree) in
+        let told : get_or (leaves_in p start end) q None ≡ Some (leaf_from p start q) = leaf_in p start end q none in_tree ∙ ap (λ (x : Leaf). Some x)
+        (leaf_is p start end q none in_tree) in
         inl (
-        lane_before p end q in_tree ∙ shown_in_round p q start end round ∙ ap (λ lane. showing lane start (leaf_from p start q)) (sym (lane_before p start q in_tree))
+        lane_before p end q in_tree ∙ shown_in_round p q start end round ∙ ap (λ lane. showing lane start (leaf_from p start q))
+        (sym (lane_before p start q in_tree))
         ∙ ap (going_on (get_or (all_before p start) q []) start) (sym told)
         );
   }
@@ -132,11 +139,13 @@ module _ (p : PlanContents) (h : IsPlan p) (start end : ℕ) (round : IsRoundUpT
       let here = is_round p h start end round in
       let length_rows = length-round p.set.tasks p.tree start end in
       let some = h.sized.some_processors in
-      let to : end_after start rows ≡ end = end_of_all rows start end (omega (arith, length_rows, some)) (λ k row at. ap (λ (x : Row). x.end) (round_get p.set.tasks p.tree start end k row at)) in
+      let to : end_after start rows ≡ end = end_of_all rows start end (omega (arith, length_rows, some)) (λ k row at. ap (λ (x : Row). x.end)
+      (round_get p.set.tasks p.tree start end k row at)) in
       let there : IsRound (end_of old) rows = subst (λ (n : ℕ). IsRound n rows) (sym before.end) here in
       record {
         lanes = ap (λ n. lanes_up_to 0 n (all_before p end)) (sym to)
-            ∙ shown_round (all_before p start) start (range_with_len 0 m) (leaves_in p start end) (all_before p end) rows old (length_rows ∙ sym (long_before p start)) here before.lanes all_shown all_going
+            ∙ shown_round (all_before p start) start (range_with_len 0 m) (leaves_in p start end) (all_before p end) rows old (length_rows
+            ∙ sym (long_before p start)) here before.lanes all_shown all_going
             ∙ ap (map merged) (sym now);
         table = subst IsTable (sym now) (IsTable-with_round old rows before.table (length_rows ∙ sym long) there);
         end = ap end_of now ∙ next_end p h start end round old long;
@@ -186,7 +195,8 @@ begun_to p h (suc most) (suc n) l early begins =
 
 -- ---- the last rounds
 
-module _ (p : PlanContents) (h : IsPlan p) (source : Source) (belongs : IsSourceOf p source) (ticks : ℕ) (last : IsLastLap p source ticks) (alike : StandsAlike p (source.tick - ticks) source.tick)
+module _ (p : PlanContents) (h : IsPlan p) (source : Source) (belongs : IsSourceOf p source) (ticks : ℕ) (last : IsLastLap p source ticks)
+    (alike : StandsAlike p (source.tick - ticks) source.tick)
     (sum : RoundSum) (before : IsSumUpTo p source.tick sum) (is : sum.rows.lanes ≡ lanes_up_to 0 sum.rows.end sum.rows.begun) where
   here : IsRoundStart p source.tick
   here = (belongs.again last.replays).event
@@ -224,8 +234,10 @@ module _ (p : PlanContents) (h : IsPlan p) (source : Source) (belongs : IsSource
         ext_get_or [] lanes (all_before p (stop_of p)) (omega (arith, long, many_begun, to)) (λ q l.
         let in_tree : q < p.tree.processors = omega (arith, l, long, many_begun) in
         copies.each q in_tree
-        ∙ ap (λ lane. copied_from w source.tick lane (leaf_from p source.tick q)) (ap (λ (ls : List (List Begun)). get_or ls q []) rows_begin ∙ lane_before p source.tick q in_tree)
-        ∙ copied_all p h (belongs.again last.replays).can w comes (omega (arith, until, later, gone, early)) q in_tree source.tick (omega (arith, gone, from, later)) early begins (omega (arith, until, left)) none
+        ∙ ap (λ lane. copied_from w source.tick lane (leaf_from p source.tick q)) (ap (λ (ls : List (List Begun)). get_or ls q []) rows_begin
+        ∙ lane_before p source.tick q in_tree)
+        ∙ copied_all p h (belongs.again last.replays).can w comes (omega (arith, until, later, gone, early)) q in_tree source.tick
+        (omega (arith, gone, from, later)) early begins (omega (arith, until, left)) none
         ∙ sym (lane_before p (stop_of p) q in_tree))
       where
         begins : event_at p source.tick ≡ true
@@ -235,7 +247,8 @@ module _ (p : PlanContents) (h : IsPlan p) (source : Source) (belongs : IsSource
         ]
 
     -- they are all rounds then
-    pub copies_sum : (next : RoundSum) → next.rounds ≡ rounds_of p → next.rounds * p.tree.processors ≤ row_limit → next.rows.end ≡ stop_of p → next.rows.lanes ≡ lanes_up_to 0 next.rows.end lanes → IsSumUpTo p (stop_of p) next
+    pub copies_sum : (next : RoundSum) → next.rounds ≡ rounds_of p → next.rounds * p.tree.processors ≤ row_limit → next.rows.end ≡ stop_of p →
+        next.rows.lanes ≡ lanes_up_to 0 next.rows.end lanes → IsSumUpTo p (stop_of p) next
     copies_sum next count few end shows =
         let all = begun_to p h (stop_of p) (stop_of p) (omega arith) (omega arith) (inl refl) in
         record {

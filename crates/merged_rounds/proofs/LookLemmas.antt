@@ -15,7 +15,8 @@ use Rattle.merged_rounds.specs.Passes.{IsKept}
 
 -- ---- one processor
 
-module _ (p : PlanContents) (start end q : ℕ) (none : Row) (lane : List Row) (before after : Option NodeId) (told : Option Leaf) (k : IsKept p start lane before) (h : IsLooked p start end q before after told) where
+module _ (p : PlanContents) (start end q : ℕ) (none : Row) (lane : List Row) (before after : Option NodeId) (told : Option Leaf) (k : IsKept p start lane
+    before) (h : IsLooked p start end q before after told) where
   -- where nothing is told it shows what the last row does
   pub shown_again : told ≡ None → leaf_at p start end q none ≡ k.leaf
   shown_again is = let (n, was, now, row) = h.again is in row none ∙ k.stays n start was (omega arith)
@@ -56,12 +57,14 @@ module _ (p : PlanContents) (start end : ℕ) (lanes : List (List Row)) (before 
     some = λ q r leaf at is. sym (row_is q r at ∙ (looked q (within q r at)).other leaf r is);
     none = λ q r at is.
         let l = within q r at in
-        ap (ends_showing (lane_of lanes q)) (row_is q r at ∙ shown_again p start end q r (lane_of lanes q) (get_or before q None) (get_or after q None) (get_or told q None) (kept q l) (looked q l) is)
+        ap (ends_showing (lane_of lanes q)) (row_is q r at ∙ shown_again p start end q r (lane_of lanes q) (get_or before q None) (get_or after q None)
+        (get_or told q None) (kept q l) (looked q l) is)
         ∙ ends_again p start end q r (lane_of lanes q) (get_or before q None) (get_or after q None) (get_or told q None) (kept q l) (looked q l) is;
   }
 
   -- at the end of the round
-  pub kept_on : (later : List (List Row)) → start ≤ end → ((q : ℕ) (r : Row) → slice_get (rows_of_round p start end) q ≡ Some r → ends_showing (lane_of later q) r.leaf ≡ true)
+  pub kept_on : (later : List (List Row)) → start ≤ end → ((q : ℕ) (r : Row) → slice_get (rows_of_round p start end) q ≡ Some r →
+      ends_showing (lane_of later q) r.leaf ≡ true)
       → (q : ℕ) → q < p.tree.processors → IsKept p end (lane_of later q) (get_or after q None)
   kept_on later on ends q l =
       let rows = rows_of_round p start end in
@@ -70,6 +73,7 @@ module _ (p : PlanContents) (start end : ℕ) (lanes : List (List Row)) (before 
       let at = slice_get-get_or rows q none (omega (arith, l, long)) in
       record {
         leaf = leaf_at p start end q none;
-        stays = λ n t e le. stays_of p start end q none (lane_of lanes q) (get_or before q None) (get_or after q None) (get_or told q None) (kept q l) (looked q l) (get_or told q None) refl n t e (omega (arith, on, le));
+        stays = λ n t e le. stays_of p start end q none (lane_of lanes q) (get_or before q None) (get_or after q None) (get_or told q None) (kept q l)
+            (looked q l) (get_or told q None) refl n t e (omega (arith, on, le));
         last = λ n e. ends q (get_or rows q none) at;
       }

@@ -1,5 +1,6 @@
 -- Rounds of the first hyperperiod come again, whatever the places are.
-use Rattle.std.proofs.Common.{◌≡◌, ℕ, zero, suc, ◌+◌, ◌-◌, ◌*◌, ◌<◌, ◌≤◌, ◌^◌, ◌&&◌, ◌++◌, not, inl, inr, Bool, true, false, List, [], ◌∷◌, filter, length, length-append, get_or, Option, None, Some, refl, sym, ap, ap₂, subst, ◌∙◌, arith, mul-le-mul_right, le_of_lt}
+use Rattle.std.proofs.Common.{◌≡◌, ℕ, zero, suc, ◌+◌, ◌-◌, ◌*◌, ◌<◌, ◌≤◌, ◌^◌, ◌&&◌, ◌++◌, not, inl, inr, Bool, true, false, List, [], ◌∷◌, filter}
+use Rattle.std.proofs.Common.{length, length-append, get_or, Option, None, Some, refl, sym, ap, ap₂, subst, ◌∙◌, arith, mul-le-mul_right, le_of_lt}
 use Rattle.std.specs.List.{range_with_len}
 use Rattle.std.proofs.lemmas.Bool.{cases_Bool, cases_eq, cases_lt, both_ways}
 use Rattle.sched_base.specs.declared.rows.Leaf.{Leaf}
@@ -45,7 +46,8 @@ held_is onto i false e = elim (cases_Bool (is_held onto i)) [
   | inr no' ↦ no'
 ]
 
-pub held_runs : (p : PlanContents) → IsPlan p → (n k : ℕ) → is_held (onto_at (set_boundary p.set.tasks) p.tree n) k ≡ is_running (packs_running (set_boundary p.set.tasks) p.tree n) k
+pub held_runs : (p : PlanContents) → IsPlan p → (n k : ℕ) → is_held (onto_at (set_boundary p.set.tasks) p.tree n) k ≡ is_running
+    (packs_running (set_boundary p.set.tasks) p.tree n) k
 held_runs p h n k = held_is (onto_at (set_boundary p.set.tasks) p.tree n) k _ (held_onto (set_boundary p.set.tasks) p.tree h.tree.tree (plan_leaves p h) n k)
 
 -- ---- within a round the places stay
@@ -57,13 +59,15 @@ module _ (p : PlanContents) (h : IsPlan p) (start end : ℕ) (round : IsRoundUpT
       let most : p.set.horizon * p.tree.scale ≤ 2 ^ 32 * p.tree.scale = mul-le-mul_right p.tree.scale (le_of_lt h.lawful.horizon_fits) in
       omega (arith, below, most, l)
 
-  running_quiet : (j : ℕ) → start + j < end → packs_running (set_boundary p.set.tasks) p.tree (start + j) ≡ packs_running (set_boundary p.set.tasks) p.tree start
+  running_quiet : (j : ℕ) → start + j < end → packs_running (set_boundary p.set.tasks) p.tree (start + j) ≡ packs_running (set_boundary p.set.tasks) p.tree
+      start
   running_quiet zero l = let e : start + 0 ≡ start = omega arith in ap (packs_running (set_boundary p.set.tasks) p.tree) e
   running_quiet (suc j) l =
       let e : start + suc j ≡ start + j + 1 = omega arith in
       ap (packs_running (set_boundary p.set.tasks) p.tree) e
       ∙ same_map (λ q. runs (set_boundary p.set.tasks) p.tree q (start + j + 1)) (λ q. runs (set_boundary p.set.tasks) p.tree q (start + j)) (packs_at p.tree 0)
-      (λ k b. set_runs_still p.set h.lawful p.tree h.tree (start + j) (fits (start + j + 1) (omega (arith, l))) (round.quiet (start + j + 1) (omega arith) (omega (arith, l))) (get_or (packs_at p.tree 0) k 0) (first_is_pack p.tree h.tree.tree k b).0)
+      (λ k b. set_runs_still p.set h.lawful p.tree h.tree (start + j) (fits (start + j + 1) (omega (arith, l))) (round.quiet (start + j + 1) (omega arith)
+      (omega (arith, l))) (get_or (packs_at p.tree 0) k 0) (first_is_pack p.tree h.tree.tree k b).0)
       ∙ running_quiet j (omega (arith, l))
 
   places_quiet : (j : ℕ) → start + j < end → places_of p (start + suc j) ≡ place (packs_running (set_boundary p.set.tasks) p.tree start) (places_of p start)
@@ -75,7 +79,8 @@ module _ (p : PlanContents) (h : IsPlan p) (start end : ℕ) (round : IsRoundUpT
       ∙ place_again (packs_running (set_boundary p.set.tasks) p.tree start) (places_of p start) (once_below (set_boundary p.set.tasks) p.tree start)
 
   pub places_end : places_of p end ≡ place (packs_running (set_boundary p.set.tasks) p.tree start) (places_of p start)
-  places_end = let up = round.above in let e : end ≡ start + suc (end - start - 1) = omega (arith, up) in ap (places_of p) e ∙ places_quiet (end - start - 1) (omega (arith, up))
+  places_end = let up = round.above in let e : end ≡ start + suc (end - start - 1) = omega (arith, up) in ap (places_of p) e
+      ∙ places_quiet (end - start - 1) (omega (arith, up))
 
   -- and are those in the round
   pub onto_end : (places_of p end).onto ≡ onto_at (set_boundary p.set.tasks) p.tree start
@@ -96,11 +101,14 @@ module _ (p : PlanContents) (h : IsPlan p) (can : CanComeRound p) (ticks : ℕ) 
       ap (λ d. runs (set_boundary p.set.tasks) p.tree x (n + d)) e
       ∙ runs_again p.set.tasks p.tree turns.units 0 (recurs p h can ticks turns n l) n x (omega arith) (early p h can ticks turns n l) in_tree
 
-  among_later : (ms : List ℕ) → ((k : ℕ) → k < length ms → get_or ms k 0 < length p.tree.nodes) → leaf_among (set_boundary p.set.tasks) p.tree (n + ticks) ms ≡ leaf_among (set_boundary p.set.tasks) p.tree n ms
+  among_later : (ms : List ℕ) → ((k : ℕ) → k < length ms → get_or ms k 0 < length p.tree.nodes) → leaf_among (set_boundary p.set.tasks) p.tree (n + ticks)
+      ms ≡ leaf_among (set_boundary p.set.tasks) p.tree n ms
   among_later [] there = refl
   among_later (x ∷ xs) there =
-      ap (λ (b : Bool). elim b as (λ y. Leaf) [ true ↦ leaf p.tree x | false ↦ leaf_among (set_boundary p.set.tasks) p.tree (n + ticks) xs ]) (run_later x (there 0 (omega arith)))
-      ∙ ap (λ (l : Leaf). elim (runs (set_boundary p.set.tasks) p.tree x n) as (λ y. Leaf) [ true ↦ leaf p.tree x | false ↦ l ]) (among_later xs (λ k b. there (suc k) (omega (arith, b))))
+      ap (λ (b : Bool). elim b as (λ y. Leaf) [ true ↦ leaf p.tree x | false ↦ leaf_among (set_boundary p.set.tasks) p.tree (n + ticks) xs ])
+      (run_later x (there 0 (omega arith)))
+      ∙ ap (λ (l : Leaf). elim (runs (set_boundary p.set.tasks) p.tree x n) as (λ y. Leaf) [ true ↦ leaf p.tree x | false ↦ l ])
+      (among_later xs (λ k b. there (suc k) (omega (arith, b))))
 
   held_later : (k : ℕ) → is_held (onto_at (set_boundary p.set.tasks) p.tree (n + ticks)) k ≡ is_held (onto_at (set_boundary p.set.tasks) p.tree n) k
   held_later k = held_runs p h (n + ticks) k ∙ ap (λ (rs : List Bool). is_running rs k) running_later ∙ sym (held_runs p h n k)
@@ -118,7 +126,8 @@ module _ (p : PlanContents) (h : IsPlan p) (can : CanComeRound p) (ticks : ℕ) 
 -- ---- what a processor shows by the pack on it
 
 module _ (p : PlanContents) (h : IsPlan p) (can : CanComeRound p) (start end q k : ℕ) (none : Row) (l : q < p.tree.processors) where
-  pub leaf_of : get_or (onto_at (set_boundary p.set.tasks) p.tree start) q None ≡ Some k → leaf_at p start end q none ≡ leaf_on (set_boundary p.set.tasks) p.tree start (Some k)
+  pub leaf_of : get_or (onto_at (set_boundary p.set.tasks) p.tree start) q None ≡ Some k → leaf_at p start end q none ≡ leaf_on (set_boundary p.set.tasks)
+      p.tree start (Some k)
   leaf_of at =
       leaf_is p start end q none l
       ∙ shown_on_time p.set.tasks p.tree.scale can.on_time start _
@@ -177,7 +186,8 @@ module _ (before now : List (Option Leaf)) where
     begins = begun;
   }
 
-  pub noted_skip : (n m : ℕ) (c : ChangeLists) → n ≤ m → ((k : ℕ) → n ≤ k → k < m → get_or now k None ≡ get_or before k None) → AreNotedTo before now n c → AreNotedTo before now m c
+  pub noted_skip : (n m : ℕ) (c : ChangeLists) → n ≤ m → ((k : ℕ) → n ≤ k → k < m → get_or now k None ≡ get_or before k None) → AreNotedTo before now n c →
+      AreNotedTo before now m c
   noted_skip n m c after still a =
       let total : n + (m - n) ≡ m = omega (arith, after) in
       record {
@@ -186,11 +196,14 @@ module _ (before now : List (Option Leaf)) where
           | inr high ↦ still k high l
         ];
         within = λ k l. (let w = a.within k l in omega (arith, w, after));
-        stops = none_listed stops n (m - n) (λ k low high. not_stopped _ _ (same_some before now k (still k low (omega (arith, high, total))))) c.stopped a.stops ∙ ap (λ j. filter stops (range_with_len 0 j)) total;
-        begins = none_listed begins n (m - n) (λ k low high. not_begun _ _ (same_some before now k (still k low (omega (arith, high, total))))) c.begun a.begins ∙ ap (λ j. filter begins (range_with_len 0 j)) total;
+        stops = none_listed stops n (m - n) (λ k low high. not_stopped _ _ (same_some before now k (still k low (omega (arith, high, total))))) c.stopped
+            a.stops ∙ ap (λ j. filter stops (range_with_len 0 j)) total;
+        begins = none_listed begins n (m - n) (λ k low high. not_begun _ _ (same_some before now k (still k low (omega (arith, high, total))))) c.begun
+            a.begins ∙ ap (λ j. filter begins (range_with_len 0 j)) total;
       }
 
-  pub noted_step : (n : ℕ) (c c' : ChangeLists) → c'.seen ≡ c.seen ++ n ∷ [] → c'.stopped ≡ with_pack c.stopped n (stops n) → c'.begun ≡ with_pack c.begun n (begins n) → AreNotedTo before now n c → AreNotedTo before now (n + 1) c'
+  pub noted_step : (n : ℕ) (c c' : ChangeLists) → c'.seen ≡ c.seen ++ n ∷ [] → c'.stopped ≡ with_pack c.stopped n (stops n) → c'.begun ≡ with_pack c.begun n
+      (begins n) → AreNotedTo before now n c → AreNotedTo before now (n + 1) c'
   noted_step n c c' seen stopped begun a = record {
     same = λ k l no. elim (cases_eq k n) [
       | inl e ↦ absurd (no (subst (λ (xs : List ℕ). IsAmong xs k) (sym seen) (subst (λ y. IsAmong (c.seen ++ n ∷ []) y) (sym e) (among_last c.seen n))))
@@ -214,22 +227,28 @@ module _ (before now : List (Option Leaf)) where
   few_begun n c a = let e = ap (λ (xs : List ℕ). length xs) a.begins in let f = few_pass begins n 0 in omega (arith, e, f)
 
   -- so the packs that run by what they show are placed
-  pub changed_by : (rs : List Bool) (onto : List (Option ℕ)) (n : ℕ) (c : ChangeLists) → length rs ≡ n → ((k : ℕ) → k < n → is_running rs k ≡ is_some (get_or now k None)) → ((k : ℕ) → k < n → is_held onto k ≡ is_some (get_or before k None)) →
+  pub changed_by : (rs : List Bool) (onto : List (Option ℕ)) (n : ℕ) (c : ChangeLists) → length rs ≡ n → ((k : ℕ) → k < n → is_running rs k ≡ is_some
+      (get_or now k None)) → ((k : ℕ) → k < n → is_held onto k ≡ is_some (get_or before k None)) →
       AreNotedTo before now n c → AreChanged rs onto c
   changed_by rs onto n c long on held_by a = record {
     stops = a.stops
-        ∙ filter_range stops (λ i. not (is_running rs i) && is_held onto i) n 0 (λ k low high. ap₂ (λ (x y : Bool). not x && y) (sym (on k (omega (arith, high)))) (sym (held_by k (omega (arith, high)))))
+        ∙ filter_range stops (λ i. not (is_running rs i) && is_held onto i) n 0 (λ k low high. ap₂ (λ (x y : Bool). not x && y)
+        (sym (on k (omega (arith, high)))) (sym (held_by k (omega (arith, high)))))
         ∙ ap (λ m. filter (λ i. not (is_running rs i) && is_held onto i) (range_with_len 0 m)) (sym long);
     begins = a.begins
-        ∙ filter_range begins (λ i. is_running rs i && not (is_held onto i)) n 0 (λ k low high. ap₂ (λ (x y : Bool). x && not y) (sym (on k (omega (arith, high)))) (sym (held_by k (omega (arith, high)))))
+        ∙ filter_range begins (λ i. is_running rs i && not (is_held onto i)) n 0 (λ k low high. ap₂ (λ (x y : Bool). x && not y)
+        (sym (on k (omega (arith, high)))) (sym (held_by k (omega (arith, high)))))
         ∙ ap (λ m. filter (λ i. is_running rs i && not (is_held onto i)) (range_with_len 0 m)) (sym long);
   }
 
 -- what packs from number n on show now doesn't matter
-pub noted_by : (before now now' : List (Option Leaf)) (n : ℕ) (c : ChangeLists) → ((k : ℕ) → k < n → get_or now' k None ≡ get_or now k None) → AreNotedTo before now n c → AreNotedTo before now' n c
+pub noted_by : (before now now' : List (Option Leaf)) (n : ℕ) (c : ChangeLists) → ((k : ℕ) → k < n → get_or now' k None ≡ get_or now k None) →
+    AreNotedTo before now n c → AreNotedTo before now' n c
 noted_by before now now' n c is a = record {
   same = λ k l no. is k l ∙ a.same k l no;
   within = a.within;
-  stops = a.stops ∙ filter_range (stops before now) (stops before now') n 0 (λ k low high. ap (λ (o : Option Leaf). not (is_some o) && is_some (get_or before k None)) (sym (is k (omega (arith, high)))));
-  begins = a.begins ∙ filter_range (begins before now) (begins before now') n 0 (λ k low high. ap (λ (o : Option Leaf). is_some o && not (is_some (get_or before k None))) (sym (is k (omega (arith, high)))));
+  stops = a.stops ∙ filter_range (stops before now) (stops before now') n 0 (λ k low high. ap (λ (o : Option Leaf). not (is_some o) && is_some
+      (get_or before k None)) (sym (is k (omega (arith, high)))));
+  begins = a.begins ∙ filter_range (begins before now) (begins before now') n 0 (λ k low high. ap (λ (o : Option Leaf). is_some o && not
+      (is_some (get_or before k None))) (sym (is k (omega (arith, high)))));
 }

@@ -1,5 +1,6 @@
 -- One round of a replay.
-use Rattle.std.proofs.Common.{◌≡◌, ◌≢◌, ℕ, zero, suc, ◌+◌, ◌-◌, ◌<◌, ◌≤◌, ◌^◌, ◌⊎◌, ◌&&◌, ◌||◌, not, inl, inr, min, Bool, true, false, List, [], ◌∷◌, length, get_or, Option, None, Some, refl, sym, ap, subst, ◌∙◌, arith}
+use Rattle.std.proofs.Common.{◌≡◌, ◌≢◌, ℕ, zero, suc, ◌+◌, ◌-◌, ◌<◌, ◌≤◌, ◌^◌, ◌⊎◌, ◌&&◌, ◌||◌, not, inl, inr, min, Bool, true, false, List, [], ◌∷◌}
+use Rattle.std.proofs.Common.{length, get_or, Option, None, Some, refl, sym, ap, subst, ◌∙◌, arith}
 use Rattle.std.proofs.lemmas.Bool.{cases_Bool, both_ways}
 use Rattle.sched_base.specs.declared.rows.Leaf.{Leaf}
 use Rattle.sched_base.specs.declared.rows.Leaf.TheVariants.{Empty}
@@ -29,22 +30,27 @@ use Rattle.merged_rounds.specs.declared.replays.Replay.{Replay}
 use Rattle.merged_rounds.specs.declared.turns.Turn.{Turn}
 use Rattle.merged_rounds.specs.Laps.{AreTurns, CanComeRound, IsAllTold, round_start}
 use Rattle.round_looks.specs.Looks.{leaf_at}
-use Rattle.merged_rounds.specs.Replays.{AreEntries, AreNotedTo, AreOrdered, HasPlaced, IsPackOn, IsReplayOf, IsTaken, IsTurnOf, packs_kept, packs_of, part_start, shown_kept, turn_end}
+use Rattle.merged_rounds.specs.Replays.{AreEntries, AreNotedTo, AreOrdered, HasPlaced, IsPackOn, IsReplayOf, IsTaken, IsTurnOf, packs_kept, packs_of}
+use Rattle.merged_rounds.specs.Replays.{part_start, shown_kept, turn_end}
 use Rattle.merged_rounds.specs.Shown.{is_some}
 use Rattle.merged_rounds.proofs.LapLemmas.{leaf_is, next_round_at, turns_more}
 use Rattle.merged_rounds.proofs.ReplayLemmas.{changed_by, held_runs, leaf_of, onto_end, pack_later, places_end}
 
 -- the same of other names
-pub ordered_as : (packs packs' : List ℕ) (low low' high high' many many' : ℕ) → packs' ≡ packs → low' ≡ low → high' ≡ high → many' ≡ many → AreOrdered packs low high many → AreOrdered packs' low' high' many'
+pub ordered_as : (packs packs' : List ℕ) (low low' high high' many many' : ℕ) → packs' ≡ packs → low' ≡ low → high' ≡ high → many' ≡ many →
+    AreOrdered packs low high many → AreOrdered packs' low' high' many'
 ordered_as packs packs' low low' high high' many many' a b c d o =
-    subst (λ (ns : List ℕ). AreOrdered ns low' high' many') (sym a) (subst (λ (n : ℕ). AreOrdered packs n high' many') (sym b) (subst (λ (n : ℕ). AreOrdered packs low n many') (sym c) (subst (λ (n : ℕ). AreOrdered packs low high n) (sym d) o)))
+    subst (λ (ns : List ℕ). AreOrdered ns low' high' many') (sym a) (subst (λ (n : ℕ). AreOrdered packs n high' many') (sym b)
+    (subst (λ (n : ℕ). AreOrdered packs low n many') (sym c) (subst (λ (n : ℕ). AreOrdered packs low high n) (sym d) o)))
 
-pub taken_as : (packs packs' : List ℕ) (shown shown' : List (Option Leaf)) (low low' high high' : ℕ) (before before' now : List (Option Leaf)) (k : ℕ) → packs' ≡ packs → shown' ≡ shown → low' ≡ low → high' ≡ high → before' ≡ before →
+pub taken_as : (packs packs' : List ℕ) (shown shown' : List (Option Leaf)) (low low' high high' : ℕ) (before before' now : List (Option Leaf)) (k : ℕ) →
+    packs' ≡ packs → shown' ≡ shown → low' ≡ low → high' ≡ high → before' ≡ before →
     IsTaken packs' shown' low' high' before' now k → IsTaken packs shown low high before now k
 taken_as packs packs' shown shown' low low' high high' before before' now k a b c d e t =
     subst (λ (ns : List ℕ). IsTaken ns shown low high before now k) a
     (subst (λ (os : List (Option Leaf)). IsTaken packs' os low high before now k) b
-    (subst (λ (n : ℕ). IsTaken packs' shown' n high before now k) c (subst (λ (n : ℕ). IsTaken packs' shown' low' n before now k) d (subst (λ (os : List (Option Leaf)). IsTaken packs' shown' low' high' os now k) e t))))
+    (subst (λ (n : ℕ). IsTaken packs' shown' n high before now k) c (subst (λ (n : ℕ). IsTaken packs' shown' low' n before now k) d
+    (subst (λ (os : List (Option Leaf)). IsTaken packs' shown' low' high' os now k) e t))))
 
 -- a pack is on a processor just where something is told of it
 pub held_some : (p : PlanContents) (n k : ℕ) (o : Option Leaf) → IsPackOn p n k o → is_held (onto_at (set_boundary p.set.tasks) p.tree n) k ≡ is_some o
@@ -73,7 +79,8 @@ module _ (p : PlanContents) (h : IsPlan p) (start : ℕ) (r : Replay) (b : IsRep
   round_now =
       let e = start_is in
       subst (λ (n : ℕ). IsRoundUpTo p n (min (get_or ends r.next 0 + r.shift) (stop_of p))) (sym e)
-      (next_round_at p h b.can r.shift b.shift (round_start 0 ends r.next) (get_or ends r.next 0) (subst (λ (n : ℕ). event_at p n ≡ true) e event_now) (omega (arith, e, l)) (b.lap.turn.round r.next b.next))
+      (next_round_at p h b.can r.shift b.shift (round_start 0 ends r.next) (get_or ends r.next 0) (subst (λ (n : ℕ). event_at p n ≡ true) e event_now)
+      (omega (arith, e, l)) (b.lap.turn.round r.next b.next))
 
   pub last_long : length r.places.last ≡ length (packs_running (set_boundary p.set.tasks) p.tree start)
   last_long = ap (λ (w : Placing). length w.last) b.places ∙ length-last p start ∙ sym (length-running (set_boundary p.set.tasks) p.tree start)
@@ -106,12 +113,15 @@ module _ (p : PlanContents) (h : IsPlan p) (start : ℕ) (r : Replay) (b : IsRep
   pub high_is : part_start r.lap.parts.items (r.next + 1) ≡ get_or r.lap.parts.items r.next 0
   high_is = let e : r.next + 1 ≡ suc r.next = omega arith in ap (part_start r.lap.parts.items) e
 
-  pub next_entries : AreEntries p (packs_kept r.lap) (shown_kept r.lap) (part_start r.lap.parts.items r.next) (get_or r.lap.parts.items r.next 0) (round_start 0 ends r.next)
+  pub next_entries : AreEntries p (packs_kept r.lap) (shown_kept r.lap) (part_start r.lap.parts.items r.next) (get_or r.lap.parts.items r.next 0)
+      (round_start 0 ends r.next)
   next_entries = b.lap.turn.entries r.next b.next
 
   -- they are taken
-  module _ (now : List (Option Leaf)) (taken : (k : ℕ) → IsTaken (packs_kept r.lap) (shown_kept r.lap) (part_start r.lap.parts.items r.next) (get_or r.lap.parts.items r.next 0) r.shows.items now k) where
-    lap_by : (k : ℕ) → k < packs_of p → IsTaken (packs_kept r.lap) (shown_kept r.lap) (part_start r.lap.parts.items r.next) (get_or r.lap.parts.items r.next 0) r.shows.items now k →
+  module _ (now : List (Option Leaf)) (taken : (k : ℕ) → IsTaken (packs_kept r.lap) (shown_kept r.lap) (part_start r.lap.parts.items r.next)
+      (get_or r.lap.parts.items r.next 0) r.shows.items now k) where
+    lap_by : (k : ℕ) → k < packs_of p → IsTaken (packs_kept r.lap) (shown_kept r.lap) (part_start r.lap.parts.items r.next) (get_or r.lap.parts.items r.next
+        0) r.shows.items now k →
         IsPackOn p (round_start 0 ends r.next) k (get_or now k None)
     lap_by k m (inl (j, above, under, at, e)) =
         subst (λ (o : Option Leaf). IsPackOn p (round_start 0 ends r.next) k o) (sym e)
@@ -133,7 +143,8 @@ module _ (p : PlanContents) (h : IsPlan p) (start : ℕ) (r : Replay) (b : IsRep
     running_now : (k : ℕ) → k < packs_of p → is_running (packs_running (set_boundary p.set.tasks) p.tree start) k ≡ is_some (get_or now k None)
     running_now k m = sym (held_runs p h start k) ∙ held_some p start k (get_or now k None) (now_on k m)
 
-    pub changed_now : (changes : ChangeLists) → AreNotedTo r.shows.items now (length r.shows.items) changes → AreChanged (packs_running (set_boundary p.set.tasks) p.tree start) r.places.onto changes
+    pub changed_now : (changes : ChangeLists) → AreNotedTo r.shows.items now (length r.shows.items) changes →
+        AreChanged (packs_running (set_boundary p.set.tasks) p.tree start) r.places.onto changes
     changed_now changes noted =
         changed_by r.shows.items now (packs_running (set_boundary p.set.tasks) p.tree start) r.places.onto (length r.shows.items) changes
         (length-running (set_boundary p.set.tasks) p.tree start ∙ sym b.long)
@@ -141,9 +152,11 @@ module _ (p : PlanContents) (h : IsPlan p) (start : ℕ) (r : Replay) (b : IsRep
         (λ k m. b.held k (let e = b.long in omega (arith, m, e))) noted
 
     -- a round later
-    module _ (r' : Replay) (lap : r'.lap ≡ r.lap) (shows : r'.shows.items ≡ now) (many : length now ≡ packs_of p) (placed : r'.places ≡ place (packs_running (set_boundary p.set.tasks) p.tree start) r.places)
+    module _ (r' : Replay) (lap : r'.lap ≡ r.lap) (shows : r'.shows.items ≡ now) (many : length now ≡ packs_of p) (placed : r'.places ≡ place
+        (packs_running (set_boundary p.set.tasks) p.tree start) r.places)
         (room : r'.changes.room ≡ packs_of p)
-        (next : r'.next < length ends) (at : round_start 0 ends r'.next + r'.shift ≡ get_or ends r.next 0 + r.shift) (shift : (r'.shift ≡ r.shift) ⊎ (r'.shift ≡ r.shift + turn_end r.lap))
+        (next : r'.next < length ends) (at : round_start 0 ends r'.next + r'.shift ≡ get_or ends r.next 0 + r.shift) (shift : (r'.shift ≡ r.shift)
+        ⊎ (r'.shift ≡ r.shift + turn_end r.lap))
         (behind : (r'.next ≡ 0) ⊎ (r'.next ≡ r.next + 1))
         (end : ℕ) (end_is : end ≡ min (get_or ends r.next 0 + r.shift) (stop_of p)) where
       round : IsRoundUpTo p start end
@@ -152,9 +165,11 @@ module _ (p : PlanContents) (h : IsPlan p) (start : ℕ) (r : Replay) (b : IsRep
       placed_end : r'.places ≡ places_of p end
       placed_end = placed ∙ ap (place (packs_running (set_boundary p.set.tasks) p.tree start)) b.places ∙ sym (places_end p h start end round)
 
-      gone_by : (k : ℕ) → (r'.next ≡ 0) ⊎ (r'.next ≡ r.next + 1) → 0 < r'.next → k < packs_of p → IsPackOn p (round_start 0 ends (r'.next - 1)) k (get_or now k None)
+      gone_by : (k : ℕ) → (r'.next ≡ 0) ⊎ (r'.next ≡ r.next + 1) → 0 < r'.next → k < packs_of p → IsPackOn p (round_start 0 ends (r'.next - 1)) k
+          (get_or now k None)
       gone_by k (inl none) some m = absurd (omega (arith, none, some))
-      gone_by k (inr one) some m = let e : r.next ≡ r'.next - 1 = omega (arith, one) in subst (λ (i : ℕ). IsPackOn p (round_start 0 ends i) k (get_or now k None)) e (lap_on k m)
+      gone_by k (inr one) some m = let e : r.next ≡ r'.next - 1 = omega (arith, one) in subst (λ (i : ℕ). IsPackOn p (round_start 0 ends i) k
+          (get_or now k None)) e (lap_on k m)
 
       pub replay_on : IsReplayOf p end r'
       replay_on = record {
@@ -171,10 +186,12 @@ module _ (p : PlanContents) (h : IsPlan p) (start : ℕ) (r : Replay) (b : IsRep
         places = placed_end;
         shown = λ s k up in_level.
             let e = same_start p s start end up round in
-            subst (λ (n : ℕ). IsPackOn p n k (get_or r'.shows.items k None)) (sym e) (subst (λ (xs : List (Option Leaf)). IsPackOn p start k (get_or xs k None)) (sym shows) (now_on k in_level));
+            subst (λ (n : ℕ). IsPackOn p n k (get_or r'.shows.items k None)) (sym e) (subst (λ (xs : List (Option Leaf)). IsPackOn p start k
+            (get_or xs k None)) (sym shows) (now_on k in_level));
         gone = λ k some in_level.
             subst (λ (z : Turn). IsPackOn p (round_start 0 z.ends (r'.next - 1)) k (get_or r'.shows.items k None)) (sym lap)
-            (subst (λ (xs : List (Option Leaf)). IsPackOn p (round_start 0 ends (r'.next - 1)) k (get_or xs k None)) (sym shows) (gone_by k behind some in_level));
+            (subst (λ (xs : List (Option Leaf)). IsPackOn p (round_start 0 ends (r'.next - 1)) k (get_or xs k None)) (sym shows) (gone_by k behind some
+            in_level));
         held = λ k in_level.
             ap (λ (w : Placing). is_held w.onto k) placed_end ∙ ap (λ os. is_held os k) (onto_end p h start end round)
             ∙ held_some p start k (get_or now k None) (now_on k in_level) ∙ ap (λ (xs : List (Option Leaf)). is_some (get_or xs k None)) (sym shows);
@@ -188,19 +205,25 @@ module _ (p : PlanContents) (h : IsPlan p) (start : ℕ) (r : Replay) (b : IsRep
 -- ---- what is told
 
 -- what a processor shows is what is told of the pack on it
-pub pack_shows : (p : PlanContents) → IsPlan p → CanComeRound p → (start end q k : ℕ) (o : Option Leaf) (leaf : Leaf) (none : Row) → q < p.tree.processors → get_or (onto_at (set_boundary p.set.tasks) p.tree start) q None ≡ Some k → IsPackOn p start k o →
+pub pack_shows : (p : PlanContents) → IsPlan p → CanComeRound p → (start end q k : ℕ) (o : Option Leaf) (leaf : Leaf) (none : Row) → q < p.tree.processors →
+    get_or (onto_at (set_boundary p.set.tasks) p.tree start) q None ≡ Some k → IsPackOn p start k o →
     ((l : Leaf) → o ≡ Some l → leaf ≡ l) → leaf_at p start end q none ≡ leaf
 pack_shows p h can start end q k None leaf none l at on is = absurd (
     let long = as_many p h start in
-    both_ways (is_held (onto_at (set_boundary p.set.tasks) p.tree start) k) (on.none refl) (held_there (onto_at (set_boundary p.set.tasks) p.tree start) q k (omega (arith, l, long)) at))
+    both_ways (is_held (onto_at (set_boundary p.set.tasks) p.tree start) k) (on.none refl) (held_there (onto_at (set_boundary p.set.tasks) p.tree start) q k
+    (omega (arith, l, long)) at))
 pack_shows p h can start end q k (Some x) leaf none l at on is = leaf_of p h can start end q k none l at ∙ on.leaf x refl ∙ sym (is x refl)
 
 -- a processor without a pack shows nothing
-pub nothing_shown : (p : PlanContents) → CanComeRound p → (start end q : ℕ) (none : Row) → q < p.tree.processors → get_or (onto_at (set_boundary p.set.tasks) p.tree start) q None ≡ None → leaf_at p start end q none ≡ Empty
-nothing_shown p can start end q none l at = leaf_is p start end q none l ∙ shown_on_time p.set.tasks p.tree.scale can.on_time start _ ∙ ap (leaf_on (set_boundary p.set.tasks) p.tree start) at
+pub nothing_shown : (p : PlanContents) → CanComeRound p → (start end q : ℕ) (none : Row) → q < p.tree.processors →
+    get_or (onto_at (set_boundary p.set.tasks) p.tree start) q None ≡ None → leaf_at p start end q none ≡ Empty
+nothing_shown p can start end q none l at = leaf_is p start end q none l ∙ shown_on_time p.set.tasks p.tree.scale can.on_time start _
+    ∙ ap (leaf_on (set_boundary p.set.tasks) p.tree start) at
 
-module _ (p : PlanContents) (h : IsPlan p) (old_tick new_tick : ℕ) (r r' : Replay) (b : IsReplayOf p old_tick r) (b' : IsReplayOf p new_tick r') (round : IsRoundUpTo p old_tick new_tick) (has : HasPlaced p old_tick r r')
-    (noted : IsNoted r.places.onto r.places.last) (noted' : IsNoted r'.places.onto r'.places.last) (told : List ℕ) (count : ℕ) (tells : AreTold r'.places r'.changes.seen told (length r'.changes.seen) count)
+module _ (p : PlanContents) (h : IsPlan p) (old_tick new_tick : ℕ) (r r' : Replay) (b : IsReplayOf p old_tick r) (b' : IsReplayOf p new_tick r')
+    (round : IsRoundUpTo p old_tick new_tick) (has : HasPlaced p old_tick r r')
+    (noted : IsNoted r.places.onto r.places.last) (noted' : IsNoted r'.places.onto r'.places.last) (told : List ℕ) (count : ℕ) (tells : AreTold r'.places
+    r'.changes.seen told (length r'.changes.seen) count)
     (q : ℕ) (l : q < p.tree.processors) (away : IsTold told count q → ⊥) where
   abbrev rs : List Bool
   rs = packs_running (set_boundary p.set.tasks) p.tree old_tick
@@ -231,14 +254,16 @@ module _ (p : PlanContents) (h : IsPlan p) (old_tick new_tick : ℕ) (r r' : Rep
       within (x ∷ xs) (suc i) e = let l = within xs i e in omega (arith, l)
 
   not_stopping : (i : ℕ) → (not (is_running rs i) && is_held r.places.onto i) ≡ true → get_or r'.places.last i None ≢ Some q
-  not_stopping i on at = both_ways (not (is_running rs i) && is_held r.places.onto i) (off (is_running rs i) (is_held r.places.onto i) (still i (in_level i at) at)) on
+  not_stopping i on at = both_ways (not (is_running rs i) && is_held r.places.onto i) (off (is_running rs i) (is_held r.places.onto i)
+      (still i (in_level i at) at)) on
     where
       off : (a b : Bool) → a ≡ b → (not a && b) ≡ false
       off true b e = refl
       off false b e = sym e
 
   not_beginning : (i : ℕ) → (is_running rs i && not (is_held r.places.onto i)) ≡ true → get_or r'.places.last i None ≢ Some q
-  not_beginning i on at = both_ways (is_running rs i && not (is_held r.places.onto i)) (off (is_running rs i) (is_held r.places.onto i) (still i (in_level i at) at)) on
+  not_beginning i on at = both_ways (is_running rs i && not (is_held r.places.onto i)) (off (is_running rs i) (is_held r.places.onto i)
+      (still i (in_level i at) at)) on
     where
       off : (a b : Bool) → a ≡ b → (a && not b) ≡ false
       off false b e = refl
@@ -248,8 +273,10 @@ module _ (p : PlanContents) (h : IsPlan p) (old_tick new_tick : ℕ) (r r' : Rep
   stays =
       ap (λ (w : Placing). get_or w.onto q None) has.placed
       ∙ moved rs r.places noted (last_long p h old_tick r b early) q
-      (λ k m at. not_stopping (get_or (stopping rs r.places.onto) k 0) (first_from (λ i. not (is_running rs i) && is_held r.places.onto i) (length rs) 0 k m).1 (last_at (get_or (stopping rs r.places.onto) k 0) at))
-      (λ k m at. not_beginning (get_or (waiting rs r.places.onto) k 0) (first_from (λ i. is_running rs i && not (is_held r.places.onto i)) (length rs) 0 k m).1 (last_at (get_or (waiting rs r.places.onto) k 0) at))
+      (λ k m at. not_stopping (get_or (stopping rs r.places.onto) k 0) (first_from (λ i. not (is_running rs i) && is_held r.places.onto i) (length rs) 0 k
+      m).1 (last_at (get_or (stopping rs r.places.onto) k 0) at))
+      (λ k m at. not_beginning (get_or (waiting rs r.places.onto) k 0) (first_from (λ i. is_running rs i && not (is_held r.places.onto i)) (length rs) 0 k
+      m).1 (last_at (get_or (waiting rs r.places.onto) k 0) at))
 
   onto_new : r'.places.onto ≡ onto_at (set_boundary p.set.tasks) p.tree old_tick
   onto_new = ap (λ (w : Placing). w.onto) b'.places ∙ onto_end p h old_tick new_tick round
@@ -291,7 +318,8 @@ held_by (o ∷ os) k on = elim (cases_Bool (is_at o k)) [
   | inr off ↦ (let (q, l, e) = held_by os k (sym (ap (λ (x : Bool). x || is_held os k) off) ∙ on) in (suc q, omega (arith, l), e))
 ]
 
-module _ (p : PlanContents) (h : IsPlan p) (can : CanComeRound p) (start end : ℕ) (onto : List (Option ℕ)) (is : onto ≡ onto_at (set_boundary p.set.tasks) p.tree start) (leaves : List (Option Leaf)) (all : IsAllTold p start end leaves)
+module _ (p : PlanContents) (h : IsPlan p) (can : CanComeRound p) (start end : ℕ) (onto : List (Option ℕ)) (is : onto ≡ onto_at (set_boundary p.set.tasks)
+    p.tree start) (leaves : List (Option Leaf)) (all : IsAllTold p start end leaves)
     (k : ℕ) (o : Option Leaf) (none : is_held onto k ≡ false → o ≡ None) (some : (q : ℕ) → get_or onto q None ≡ Some k → o ≡ get_or leaves q None) where
   nobody : Row
   nobody = record { processor = 0; start = 0; end = 0; leaf = Empty }
@@ -332,13 +360,16 @@ module _ (p : PlanContents) (h : IsPlan p) (can : CanComeRound p) (start end : �
 
 -- ---- what a processor shows in a round that came again
 
-module _ (p : PlanContents) (h : IsPlan p) (start end : ℕ) (r : Replay) (b : IsReplayOf p end r) (round : IsRoundUpTo p start end) (q : ℕ) (l : q < p.tree.processors) (none : Row) where
+module _ (p : PlanContents) (h : IsPlan p) (start end : ℕ) (r : Replay) (b : IsReplayOf p end r) (round : IsRoundUpTo p start end) (q : ℕ)
+    (l : q < p.tree.processors) (none : Row) where
   onto_is_now : r.places.onto ≡ onto_at (set_boundary p.set.tasks) p.tree start
   onto_is_now = ap (λ (w : Placing). w.onto) b.places ∙ onto_end p h start end round
 
-  pub shown_by : (pack : Option ℕ) → get_or r.places.onto q None ≡ pack → (leaf : Leaf) → (pack ≡ None → leaf ≡ Empty) → ((k : ℕ) (x : Leaf) → pack ≡ Some k → get_or r.shows.items k None ≡ Some x → leaf ≡ x) →
+  pub shown_by : (pack : Option ℕ) → get_or r.places.onto q None ≡ pack → (leaf : Leaf) → (pack ≡ None → leaf ≡ Empty) →
+      ((k : ℕ) (x : Leaf) → pack ≡ Some k → get_or r.shows.items k None ≡ Some x → leaf ≡ x) →
       leaf_at p start end q none ≡ leaf
-  shown_by None at leaf empty is = nothing_shown p b.can start end q none l (ap (λ (os : List (Option ℕ)). get_or os q None) (sym onto_is_now) ∙ at) ∙ sym (empty refl)
+  shown_by None at leaf empty is = nothing_shown p b.can start end q none l (ap (λ (os : List (Option ℕ)). get_or os q None) (sym onto_is_now) ∙ at)
+      ∙ sym (empty refl)
   shown_by (Some k) at leaf empty is =
       let there = ap (λ (os : List (Option ℕ)). get_or os q None) (sym onto_is_now) ∙ at in
       let m = pack_within p h start q k l there in

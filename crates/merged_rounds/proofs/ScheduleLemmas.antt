@@ -11,7 +11,8 @@ use Rattle.merged_rows.proofs.MergedTables.{lawful_rows}
 use Rattle.merged_rounds.specs.Passes.{AreMergedOf}
 
 -- the rows of the schedule's lanes are a table of so many rounds
-pub lawful_merged : (p : PlanContents) → IsPlan p → (lanes : List (List Row)) → AreMergedOf p lanes → (rounds : ℕ) → IsTable (lanes_of p.tree.processors (schedule_of p))
+pub lawful_merged : (p : PlanContents) → IsPlan p → (lanes : List (List Row)) → AreMergedOf p lanes → (rounds : ℕ) →
+    IsTable (lanes_of p.tree.processors (schedule_of p))
     → rounds_in (lanes_of p.tree.processors (schedule_of p)) ≡ rounds → rounds * p.tree.processors ≤ row_limit → AreLawful p.set lanes
 lawful_merged p h lanes is rounds table count few =
     let m = p.tree.processors in

@@ -1,5 +1,6 @@
 -- Rounds merged and counted, from one to the next.
-use Rattle.std.proofs.Common.{◌≡◌, ℕ, ◌+◌, ◌*◌, ◌/◌, ◌<◌, ◌≤◌, List, [], length, map, replicate, slice_get, Option, None, Some, true, sym, ap, subst, ◌∙◌, arith, Fits, w64}
+use Rattle.std.proofs.Common.{◌≡◌, ℕ, ◌+◌, ◌*◌, ◌/◌, ◌<◌, ◌≤◌, List, [], length, map, replicate, slice_get, Option, None, Some, true, sym, ap, subst}
+use Rattle.std.proofs.Common.{◌∙◌, arith, Fits, w64}
 use Rattle.std.proofs.Math.Nat.{mul-le-mul_left}
 use Rattle.std.proofs.lemmas.List.{length-map}
 use Rattle.std.proofs.lemmas.Option.{slice_get_within}
@@ -39,7 +40,8 @@ rows_fit count n processors is most some few =
     omega (arith, same, most, few)
 
 -- no round yet
-pub sum_none : (p : PlanContents) → IsPlan p → (sum : RoundSum) → sum.rounds ≡ 0 → sum.rows.lanes ≡ replicate p.tree.processors [] → sum.rows.end ≡ 0 → IsSumUpTo p 0 sum
+pub sum_none : (p : PlanContents) → IsPlan p → (sum : RoundSum) → sum.rounds ≡ 0 → sum.rows.lanes ≡ replicate p.tree.processors [] → sum.rows.end ≡ 0 →
+    IsSumUpTo p 0 sum
 sum_none p h sum count none end =
     let m = p.tree.processors in
     let lanes : lanes_of m (rows_before p 0) ≡ lanes_of m [] = ap (lanes_of m) (no_rows p) in
@@ -73,7 +75,8 @@ module _ (p : PlanContents) (h : IsPlan p) (start end : ℕ) (round : IsRoundUpT
 
   -- as many lanes as processors
   pub lanes_whole : length sum.rows.lanes ≡ p.tree.processors
-  lanes_whole = ap length before.lanes ∙ length-map (lanes_of p.tree.processors (rows_before p start)) merged ∙ length-lanes_of p.tree.processors (rows_before p start)
+  lanes_whole = ap length before.lanes ∙ length-map (lanes_of p.tree.processors (rows_before p start)) merged ∙ length-lanes_of p.tree.processors
+      (rows_before p start)
 
   -- without room for it there are too many rows
   pub no_room : start < stop_of p → (n rows : ℕ) → n ≡ p.tree.processors → rows ≡ (sum.rounds + 1) * n → row_limit < rows →
@@ -84,17 +87,21 @@ module _ (p : PlanContents) (h : IsPlan p) (start end : ℕ) (round : IsRoundUpT
       (t.0, same ∙ t.1)
 
   -- where those processors show what they do that may show something else, the round is merged
-  pub seen_on : (next : RoundSum) (changed : List ℕ) → length sum.rows.begun ≡ length sum.rows.lanes → sum.rows.lanes ≡ lanes_up_to 0 sum.rows.end sum.rows.begun → next.rows.lanes ≡ lanes_up_to 0 end next.rows.begun →
-      AreShown sum.rows.lanes changed (leaves_in p start end) (rows_of_round p start end) → AreGoingOn sum.rows.begun sum.rows.end changed (leaves_in p start end) next.rows.begun (length changed) →
+  pub seen_on : (next : RoundSum) (changed : List ℕ) → length sum.rows.begun ≡ length sum.rows.lanes → sum.rows.lanes ≡ lanes_up_to 0 sum.rows.end
+      sum.rows.begun → next.rows.lanes ≡ lanes_up_to 0 end next.rows.begun →
+      AreShown sum.rows.lanes changed (leaves_in p start end) (rows_of_round p start end) → AreGoingOn sum.rows.begun sum.rows.end changed
+      (leaves_in p start end) next.rows.begun (length changed) →
       next.rows.lanes ≡ map merged (with_round (lanes_of p.tree.processors (rows_before p start)) (rows_of_round p start end))
   seen_on next changed many was is shows going =
       let rows = rows_of_round p start end in
       let whole : length rows ≡ length sum.rows.begun = length-round p.set.tasks p.tree start end ∙ sym lanes_whole ∙ sym many in
       is ∙ ap (λ n. lanes_up_to 0 n next.rows.begun) (sym round_to)
-      ∙ shown_round sum.rows.begun sum.rows.end changed (leaves_in p start end) next.rows.begun rows (lanes_of p.tree.processors (rows_before p start)) whole round_here (sym was ∙ before.lanes)
+      ∙ shown_round sum.rows.begun sum.rows.end changed (leaves_in p start end) next.rows.begun rows (lanes_of p.tree.processors (rows_before p start))
+      whole round_here (sym was ∙ before.lanes)
       (subst (λ (ls : List (List Row)). AreShown ls changed (leaves_in p start end) rows) was shows) going
 
-  module _ (next : RoundSum) (lanes : next.rows.lanes ≡ map merged (with_round (lanes_of p.tree.processors (rows_before p start)) (rows_of_round p start end))) where
+  module _ (next : RoundSum) (lanes : next.rows.lanes ≡ map merged (with_round (lanes_of p.tree.processors (rows_before p start)) (rows_of_round p start
+      end))) where
     -- with the round
     pub sum_on : next.rounds ≡ sum.rounds + 1 → next.rounds * p.tree.processors ≤ row_limit → next.rows.end ≡ end → IsSumUpTo p end next
     sum_on one few to =

@@ -1,5 +1,6 @@
 -- One round more of a hyperperiod that is kept, and the replay that begins behind it.
-use Rattle.std.proofs.Common.{◌≡◌, ◌≢◌, ℕ, zero, suc, ◌+◌, ◌-◌, ◌*◌, ◌<◌, ◌≤◌, ◌++◌, inl, inr, List, [], ◌∷◌, length, length-append, set, get_or, Option, None, refl, sym, ap, subst, ◌∙◌, arith, mul-le-mul_right, length-set}
+use Rattle.std.proofs.Common.{◌≡◌, ◌≢◌, ℕ, zero, suc, ◌+◌, ◌-◌, ◌*◌, ◌<◌, ◌≤◌, ◌++◌, inl, inr, List, [], ◌∷◌, length, length-append, set, get_or}
+use Rattle.std.proofs.Common.{Option, None, refl, sym, ap, subst, ◌∙◌, arith, mul-le-mul_right, length-set}
 use Rattle.std.proofs.Math.ListN.{get_or-append}
 use Rattle.std.proofs.Math.Seq.{get_or-append_seam}
 use Rattle.std.proofs.lemmas.Bool.{cases_lt}
@@ -13,7 +14,8 @@ use Rattle.event_core.proofs.SettledPacks.{same_start}
 use Rattle.merged_rounds.specs.declared.replays.Replay.{Replay}
 use Rattle.merged_rounds.specs.declared.turns.Turn.{Turn}
 use Rattle.merged_rounds.specs.Laps.{AreTurns, CanComeRound, round_start}
-use Rattle.merged_rounds.specs.Replays.{AreEntries, AreKept, AreOrdered, IsNotAmong, IsPackOn, IsReplayOf, IsTurn, IsTurnOf, packs_kept, packs_of, part_start, shown_kept, turn_end}
+use Rattle.merged_rounds.specs.Replays.{AreEntries, AreKept, AreOrdered, IsNotAmong, IsPackOn, IsReplayOf, IsTurn, IsTurnOf, packs_kept, packs_of}
+use Rattle.merged_rounds.specs.Replays.{part_start, shown_kept, turn_end}
 use Rattle.merged_rounds.specs.Shown.{PackShows, packs_in, shown_in}
 use Rattle.merged_rounds.proofs.ChangeLemmas.{set_other, set_same}
 use Rattle.merged_rounds.proofs.LapLemmas.{last_start, start_kept}
@@ -56,7 +58,8 @@ module _ (packs : List ℕ) (x low high many : ℕ) (a : AreOrdered packs low hi
   ordered_kept = record {
     up = a.up;
     within = (let w = a.within in let n = length-append packs (x ∷ []) in omega (arith, w, n));
-    level = λ j above under. (let w = a.within in let e = get_or-append packs (x ∷ []) 0 j (omega (arith, w, under)) in let f = a.level j above under in omega (arith, e, f));
+    level = λ j above under. (let w = a.within in let e = get_or-append packs (x ∷ []) 0 j (omega (arith, w, under)) in let f = a.level j above under in
+        omega (arith, e, f));
     order = λ j above under.
         let w = a.within in
         let e = get_or-append packs (x ∷ []) 0 j (omega (arith, w, under)) in
@@ -72,7 +75,8 @@ module _ (p : PlanContents) (packs : List ℕ) (shown : List (Option Leaf)) (bot
     shows = λ j above under.
         let w = a.ordered.within in
         subst (λ (k : ℕ). IsPackOn p tick k (get_or (shown ++ y ∷ []) j None)) (sym (get_or-append packs (x ∷ []) 0 j (omega (arith, w, under))))
-        (subst (λ (o : Option Leaf). IsPackOn p tick (get_or packs j 0) o) (sym (get_or-append shown (y ∷ []) None j (omega (arith, w, under, both)))) (a.shows j above under));
+        (subst (λ (o : Option Leaf). IsPackOn p tick (get_or packs j 0) o) (sym (get_or-append shown (y ∷ []) None j (omega (arith, w, under, both))))
+        (a.shows j above under));
   }
 
   turn_kept : (ends parts : List ℕ) → IsTurn p ends parts packs shown → IsTurn p ends parts (packs ++ x ∷ []) (shown ++ y ∷ [])
@@ -93,7 +97,13 @@ kept_none p start t a = record {
   turn = a.turn;
   long = refl;
   entries = record {
-    ordered = record { up = omega arith; within = omega arith; level = λ j above under. absurd (omega (arith, above, under)); order = λ j above under. absurd (omega (arith, above, under)) };
+    ordered = record {
+      up = omega arith;
+      within = omega arith;
+      level = λ j above under. absurd (omega (arith, above, under));
+      order = λ j above under.
+          absurd (omega (arith, above, under));
+    };
     shows = λ j above under. absurd (omega (arith, above, under));
   };
   below = λ j above under. absurd (omega (arith, above, under));
@@ -117,7 +127,8 @@ module _ (p : PlanContents) (start : ℕ) (before t : Turn) (n : ℕ) (a : AreKe
     later = λ k l. a.later k (omega (arith, l));
     on = λ k l. elim (cases_lt k n) [
       | inl low ↦ a.on k low
-      | inr high ↦ (let e : n ≡ k = omega (arith, l, high) in subst (λ (i : ℕ). IsPackOn p start i (get_or t.last.items i None)) e (subst (λ (o : Option Leaf). IsPackOn p start n o) same shows))
+      | inr high ↦ (let e : n ≡ k = omega (arith, l, high) in subst (λ (i : ℕ). IsPackOn p start i (get_or t.last.items i None)) e
+          (subst (λ (o : Option Leaf). IsPackOn p start n o) same shows))
     ];
     rest = λ k l none. elim (cases_lt k n) [
       | inl low ↦ a.rest k low none
@@ -126,7 +137,8 @@ module _ (p : PlanContents) (start : ℕ) (before t : Turn) (n : ℕ) (a : AreKe
   }
 
   -- one with an entry
-  module _ (t' : Turn) (level : n < packs_of p) (room : n < length t.last.items) (ends : t'.ends ≡ t.ends) (parts : t'.parts ≡ t.parts) (packs : packs_kept t' ≡ packs_kept t ++ n ∷ [])
+  module _ (t' : Turn) (level : n < packs_of p) (room : n < length t.last.items) (ends : t'.ends ≡ t.ends) (parts : t'.parts ≡ t.parts)
+      (packs : packs_kept t' ≡ packs_kept t ++ n ∷ [])
       (shown : shown_kept t' ≡ shown_kept t ++ leaf ∷ []) (last : t'.last.items ≡ set t.last.items n leaf) where
     abbrev low : ℕ
     low = length (packs_kept before)
@@ -141,7 +153,8 @@ module _ (p : PlanContents) (start : ℕ) (before t : Turn) (n : ℕ) (a : AreKe
     pack_old j l = get_or-append (packs_kept t) (n ∷ []) 0 j l
 
     pack_new : (j : ℕ) → old ≤ j → j < old + 1 → get_or ((packs_kept t) ++ n ∷ []) j 0 ≡ n
-    pack_new j above under = let e : j ≡ old = omega (arith, above, under) in ap (λ i. get_or ((packs_kept t) ++ n ∷ []) i 0) e ∙ get_or-append_seam (packs_kept t) n [] 0
+    pack_new j above under = let e : j ≡ old = omega (arith, above, under) in ap (λ i. get_or ((packs_kept t) ++ n ∷ []) i 0) e ∙ get_or-append_seam
+        (packs_kept t) n [] 0
 
     leaf_new : get_or ((shown_kept t) ++ leaf ∷ []) old None ≡ leaf
     leaf_new = ap (λ i. get_or ((shown_kept t) ++ leaf ∷ []) i None) (sym a.turn.both) ∙ get_or-append_seam (shown_kept t) leaf [] None
@@ -157,7 +170,8 @@ module _ (p : PlanContents) (start : ℕ) (before t : Turn) (n : ℕ) (a : AreKe
         ];
         order = λ j above under. elim (cases_lt (j + 1) old) [
           | inl b ↦ (let e = pack_old j (omega (arith, b)) in let g = pack_old (j + 1) b in let f = a.entries.ordered.order j above b in omega (arith, e, f, g))
-          | inr b ↦ (let m : j < old = omega (arith, under, more) in let e = pack_old j m in let g = pack_new (j + 1) b (omega (arith, under, more)) in let f = a.below j above m in omega (arith, e, f, g))
+          | inr b ↦ (let m : j < old = omega (arith, under, more) in let e = pack_old j m in let g = pack_new (j + 1) b (omega (arith, under, more)) in
+              let f = a.below j above m in omega (arith, e, f, g))
         ];
       };
       shows = λ j above under. elim (cases_lt j old) [
@@ -182,7 +196,8 @@ module _ (p : PlanContents) (start : ℕ) (before t : Turn) (n : ℕ) (a : AreKe
     last_here : get_or t'.last.items n None ≡ leaf
     last_here = ap (λ (xs : List (Option Leaf)). get_or xs n None) last ∙ set_same t.last.items n leaf None room
 
-    rest_on : (k : ℕ) → k < n + 1 → IsNotAmong ((packs_kept t) ++ n ∷ []) low (length ((packs_kept t) ++ n ∷ [])) k → (0 < length before.ends) × (get_or t'.last.items k None ≡ get_or before.last.items k None)
+    rest_on : (k : ℕ) → k < n + 1 → IsNotAmong ((packs_kept t) ++ n ∷ []) low (length ((packs_kept t) ++ n ∷ [])) k → (0 < length before.ends)
+        × (get_or t'.last.items k None ≡ get_or before.last.items k None)
     rest_on k l none = elim (cases_lt k n) [
       | inl b ↦
           (let r = a.rest k b (not_among_kept (packs_kept t) n low old k (omega arith) (λ j above under. none j above (omega (arith, under, more)))) in
@@ -206,35 +221,43 @@ module _ (p : PlanContents) (start : ℕ) (before t : Turn) (n : ℕ) (a : AreKe
           (turn_kept p (packs_kept t) (shown_kept t) a.turn.both n leaf t.ends t.parts.items a.turn))));
       long = ap (λ (xs : List (Option Leaf)). length xs) last ∙ length-set t.last.items n leaf ∙ a.long;
       entries = subst (λ (ks : List ℕ). AreEntries p ks (shown_kept t') low (length ks) start) (sym packs)
-          (subst (λ (os : List (Option Leaf)). AreEntries p ((packs_kept t) ++ n ∷ []) os low (length ((packs_kept t) ++ n ∷ [])) start) (sym shown) entries_on);
+          (subst (λ (os : List (Option Leaf)). AreEntries p ((packs_kept t) ++ n ∷ []) os low (length ((packs_kept t) ++ n ∷ [])) start) (sym shown)
+          entries_on);
       few = (let f = a.few in let e = ap (λ (ks : List ℕ). length ks) packs in omega (arith, f, e, more));
       below = subst (λ (ks : List ℕ). (j : ℕ) → low ≤ j → j < length ks → get_or ks j 0 < n + 1) (sym packs) below_on;
       later = λ k l. last_other k (λ e. omega (arith, e, l)) ∙ a.later k (omega (arith, l));
       on = λ k l. elim (cases_lt k n) [
         | inl b ↦ subst (λ (o : Option Leaf). IsPackOn p start k o) (sym (last_other k (λ e. omega (arith, e, b)))) (a.on k b)
-        | inr b ↦ (let e : n ≡ k = omega (arith, l, b) in subst (λ (i : ℕ). IsPackOn p start i (get_or t'.last.items i None)) e (subst (λ (o : Option Leaf). IsPackOn p start n o) (sym last_here) shows))
+        | inr b ↦ (let e : n ≡ k = omega (arith, l, b) in subst (λ (i : ℕ). IsPackOn p start i (get_or t'.last.items i None)) e
+            (subst (λ (o : Option Leaf). IsPackOn p start n o) (sym last_here) shows))
       ];
-      rest = subst (λ (ks : List ℕ). (k : ℕ) → k < n + 1 → IsNotAmong ks low (length ks) k → (0 < length before.ends) × (get_or t'.last.items k None ≡ get_or before.last.items k None)) (sym packs) rest_on;
+      rest = subst (λ (ks : List ℕ). (k : ℕ) → k < n + 1 → IsNotAmong ks low (length ks) k → (0 < length before.ends)
+          × (get_or t'.last.items k None ≡ get_or before.last.items k None)) (sym packs) rest_on;
     }
 
 -- so many packs that show what they did
-pub kept_skips : (p : PlanContents) (start : ℕ) (before t : Turn) (n j : ℕ) → AreKept p start before t n → 0 < length before.ends → ((k : ℕ) → n ≤ k → k < n + j → IsPackOn p start k (get_or t.last.items k None)) → AreKept p start before t (n + j)
+pub kept_skips : (p : PlanContents) (start : ℕ) (before t : Turn) (n j : ℕ) → AreKept p start before t n → 0 < length before.ends →
+    ((k : ℕ) → n ≤ k → k < n + j → IsPackOn p start k (get_or t.last.items k None)) → AreKept p start before t (n + j)
 kept_skips p start before t n zero a some on = let e : n ≡ n + 0 = omega arith in subst (λ (m : ℕ). AreKept p start before t m) e a
 kept_skips p start before t n (suc j) a some on =
     let e : n + j + 1 ≡ n + suc j = omega arith in
     subst (λ (m : ℕ). AreKept p start before t m) e
-    (kept_skip p start before t (n + j) (kept_skips p start before t n j a some (λ k low high. on k low (omega (arith, high)))) (get_or t.last.items (n + j) None) (on (n + j) (omega arith) (omega arith)) some refl)
+    (kept_skip p start before t (n + j) (kept_skips p start before t n j a some (λ k low high. on k low (omega (arith, high)))) (get_or t.last.items (n + j)
+    None) (on (n + j) (omega arith) (omega arith)) some refl)
 
 -- up to this one
-pub kept_to : (p : PlanContents) (start : ℕ) (before t : Turn) (n m : ℕ) → n ≤ m → AreKept p start before t n → (n < m → 0 < length before.ends) → ((k : ℕ) → n ≤ k → k < m → IsPackOn p start k (get_or t.last.items k None)) → AreKept p start before t m
+pub kept_to : (p : PlanContents) (start : ℕ) (before t : Turn) (n m : ℕ) → n ≤ m → AreKept p start before t n → (n < m → 0 < length before.ends) →
+    ((k : ℕ) → n ≤ k → k < m → IsPackOn p start k (get_or t.last.items k None)) → AreKept p start before t m
 kept_to p start before t n m up a some on = elim (cases_lt n m) [
-  | inl more ↦ (let e : n + (m - n) ≡ m = omega (arith, up) in subst (λ (i : ℕ). AreKept p start before t i) e (kept_skips p start before t n (m - n) a (some more) (λ k low high. on k low (omega (arith, high, e)))))
+  | inl more ↦ (let e : n + (m - n) ≡ m = omega (arith, up) in subst (λ (i : ℕ). AreKept p start before t i) e (kept_skips p start before t n (m - n) a
+      (some more) (λ k low high. on k low (omega (arith, high, e)))))
   | inr same ↦ (let e : n ≡ m = omega (arith, up, same) in subst (λ (i : ℕ). AreKept p start before t i) e a)
 ]
 
 -- ---- one round more
 
-module _ (p : PlanContents) (start end : ℕ) (before t t' : Turn) (was : IsTurnOf p before) (here : turn_end before ≡ start) (round : IsRoundUpTo p start end) (a : AreKept p start before t (packs_of p))
+module _ (p : PlanContents) (start end : ℕ) (before t t' : Turn) (was : IsTurnOf p before) (here : turn_end before ≡ start) (round : IsRoundUpTo p start
+    end) (a : AreKept p start before t (packs_of p))
     (ends_are : t'.ends ≡ t.ends ++ end ∷ []) (parts_are : t'.parts.items ≡ t.parts.items ++ length t.entries.items ∷ []) (entries_are : t'.entries ≡ t.entries)
     (last_is : t'.last ≡ t.last) where
   abbrev ends : List ℕ
@@ -313,7 +336,8 @@ module _ (p : PlanContents) (start end : ℕ) (before t t' : Turn) (was : IsTurn
   ]
 
   -- a pack without an entry in the new round
-  rest_here : (k : ℕ) (o : Option Leaf) → k < packs_of p → IsNotAmong packs (length (packs_kept before)) (length packs) k → (0 < length ends) × (IsPackOn p (round_start 0 ends' (length ends - 1)) k o → IsPackOn p start k o)
+  rest_here : (k : ℕ) (o : Option Leaf) → k < packs_of p → IsNotAmong packs (length (packs_kept before)) (length packs) k → (0 < length ends)
+      × (IsPackOn p (round_start 0 ends' (length ends - 1)) k o → IsPackOn p start k o)
   rest_here k o m none =
       let r = a.rest k m none in
       let some = r.0 in (
@@ -324,12 +348,15 @@ module _ (p : PlanContents) (start end : ℕ) (before t t' : Turn) (was : IsTurn
             subst (λ (x : Option Leaf). IsPackOn p start k x) (r.1 ∙ sym e) (a.on k m),
       )
 
-  rest_all : (i k : ℕ) (o : Option Leaf) → i < length ends + 1 → k < packs_of p → IsNotAmong packs (part_start parts' i) (get_or parts' i 0) k → (0 < i) × (IsPackOn p (round_start 0 ends' (i - 1)) k o → IsPackOn p (round_start 0 ends' i) k o)
+  rest_all : (i k : ℕ) (o : Option Leaf) → i < length ends + 1 → k < packs_of p → IsNotAmong packs (part_start parts' i) (get_or parts' i 0) k → (0 < i)
+      × (IsPackOn p (round_start 0 ends' (i - 1)) k o → IsPackOn p (round_start 0 ends' i) k o)
   rest_all i k o l m none = elim (cases_lt i (length ends)) [
     | inl low ↦
-        (let r = kept.rest i k o low m (λ j above under. none j (let e = low_old i (omega (arith, low)) in omega (arith, e, above)) (let e = high_old i low in omega (arith, e, under))) in (
+        (let r = kept.rest i k o low m (λ j above under. none j (let e = low_old i (omega (arith, low)) in omega (arith, e, above)) (let e = high_old i low
+        in omega (arith, e, under))) in (
           r.0,
-          λ on. subst (λ (s : ℕ). IsPackOn p s k o) (sym (start_old i (omega (arith, low)))) (r.1 (subst (λ (s : ℕ). IsPackOn p s k o) (start_old (i - 1) (omega (arith, low))) on)),
+          λ on. subst (λ (s : ℕ). IsPackOn p s k o) (sym (start_old i (omega (arith, low))))
+              (r.1 (subst (λ (s : ℕ). IsPackOn p s k o) (start_old (i - 1) (omega (arith, low))) on)),
         ))
     | inr high ↦
         (let e : i ≡ length ends = omega (arith, l, high) in
@@ -352,7 +379,8 @@ module _ (p : PlanContents) (start end : ℕ) (before t t' : Turn) (was : IsTurn
   ends_now = ends_are ∙ ap (λ (es : List ℕ). es ++ end ∷ []) a.ends
 
   parts_now : t'.parts.items ≡ parts'
-  parts_now = parts_are ∙ ap (λ n. t.parts.items ++ n ∷ []) (sym (length-map t.entries.items (λ (e : PackShows). e.pack))) ∙ ap (λ (v : _). v.items ++ length packs ∷ []) a.parts
+  parts_now = parts_are ∙ ap (λ n. t.parts.items ++ n ∷ []) (sym (length-map t.entries.items (λ (e : PackShows). e.pack)))
+      ∙ ap (λ (v : _). v.items ++ length packs ∷ []) a.parts
 
   pub turn_on : IsTurnOf p t'
   turn_on = record {
@@ -360,11 +388,14 @@ module _ (p : PlanContents) (start end : ℕ) (before t t' : Turn) (was : IsTurn
         subst (λ (es : List ℕ). IsTurn p es t'.parts.items (packs_kept t') (shown_kept t')) (sym ends_now)
         (subst (λ (ns : List ℕ). IsTurn p ends' ns (packs_kept t') (shown_kept t')) (sym parts_now)
         (subst (λ (v : _). IsTurn p ends' parts' (packs_in v.items) (shown_in v.items)) (sym entries_are) turn_of));
-    whole = ap (λ (ns : List ℕ). part_start ns (length ns)) parts_now ∙ last_start 0 (length packs) parts ∙ ap (λ (v : _). length (packs_in v.items)) (sym entries_are);
+    whole = ap (λ (ns : List ℕ). part_start ns (length ns)) parts_now ∙ last_start 0 (length packs) parts ∙ ap (λ (v : _). length (packs_in v.items))
+        (sym entries_are);
     last = λ k l m.
         let e : length t'.ends - 1 ≡ length ends = (let f = ap (λ (es : List ℕ). length es) ends_now in omega (arith, f, long_on)) in
-        let at : round_start 0 t'.ends (length t'.ends - 1) ≡ start = ap (round_start 0 t'.ends) e ∙ ap (λ (es : List ℕ). round_start 0 es (length ends)) ends_now ∙ start_here in
-        subst (λ (s : ℕ). IsPackOn p s k (get_or t'.last.items k None)) (sym at) (subst (λ (v : _). IsPackOn p start k (get_or v.items k None)) (sym last_is) (a.on k m));
+        let at : round_start 0 t'.ends (length t'.ends - 1) ≡ start = ap (round_start 0 t'.ends) e ∙ ap (λ (es : List ℕ). round_start 0 es (length ends))
+        ends_now ∙ start_here in
+        subst (λ (s : ℕ). IsPackOn p s k (get_or t'.last.items k None)) (sym at) (subst (λ (v : _). IsPackOn p start k (get_or v.items k None))
+        (sym last_is) (a.on k m));
     long = ap (λ (v : _). length v.items) last_is ∙ a.long ∙ was.long;
   }
 
@@ -373,7 +404,8 @@ module _ (p : PlanContents) (start end : ℕ) (before t t' : Turn) (was : IsTurn
 
 -- ---- where a replay begins
 
-module _ (p : PlanContents) (h : IsPlan p) (can : CanComeRound p) (c : CoreContents) (b : IsCoreOf p c) (r : Replay) (lap : IsTurnOf p r.lap) (end : turn_end r.lap ≡ c.tick) (turns : AreTurns p c.tick) where
+module _ (p : PlanContents) (h : IsPlan p) (can : CanComeRound p) (c : CoreContents) (b : IsCoreOf p c) (r : Replay) (lap : IsTurnOf p r.lap)
+    (end : turn_end r.lap ≡ c.tick) (turns : AreTurns p c.tick) where
   abbrev kept_ends : List ℕ
   kept_ends = r.lap.ends
 
@@ -388,20 +420,23 @@ module _ (p : PlanContents) (h : IsPlan p) (can : CanComeRound p) (c : CoreConte
   pub some_rounds : 0 < length kept_ends
   some_rounds = elim (cases_lt 0 (length kept_ends)) [
     | inl l ↦ l
-    | inr none ↦ absurd (let e : length kept_ends ≡ 0 = omega (arith, none) in let f = ap (round_start 0 kept_ends) e in let s = positive in omega (arith, f, end, s))
+    | inr none ↦ absurd (let e : length kept_ends ≡ 0 = omega (arith, none) in let f = ap (round_start 0 kept_ends) e in let s = positive in
+        omega (arith, f, end, s))
   ]
 
   last_round : IsRoundUpTo p (round_start 0 kept_ends (length kept_ends - 1)) c.tick
   last_round =
       let s = some_rounds in
       let e : length kept_ends ≡ suc (length kept_ends - 1) = omega (arith, s) in
-      subst (λ (n : ℕ). IsRoundUpTo p (round_start 0 kept_ends (length kept_ends - 1)) n) (sym (ap (round_start 0 kept_ends) e) ∙ end) (lap.turn.round (length kept_ends - 1) (omega (arith, s)))
+      subst (λ (n : ℕ). IsRoundUpTo p (round_start 0 kept_ends (length kept_ends - 1)) n) (sym (ap (round_start 0 kept_ends) e) ∙ end)
+      (lap.turn.round (length kept_ends - 1) (omega (arith, s)))
 
   pub begins : r.next ≡ 0 → r.shift ≡ c.tick → r.places ≡ c.places → r.changes.room ≡ packs_of p → r.shows.items ≡ r.lap.last.items → IsReplayOf p c.tick r
   begins next shift places room shows =
       let s = some_rounds in
       let last_on : (k : ℕ) → k < packs_of p → IsPackOn p (round_start 0 kept_ends (length kept_ends - 1)) k (get_or r.shows.items k None) =
-      (λ k m. subst (λ (xs : List (Option Leaf)). IsPackOn p (round_start 0 kept_ends (length kept_ends - 1)) k (get_or xs k None)) (sym shows) (lap.last k s m)) in
+      (λ k m. subst (λ (xs : List (Option Leaf)). IsPackOn p (round_start 0 kept_ends (length kept_ends - 1)) k (get_or xs k None)) (sym shows)
+      (lap.last k s m)) in
       record {
         can = can;
         lap = lap;
@@ -416,7 +451,8 @@ module _ (p : PlanContents) (h : IsPlan p) (can : CanComeRound p) (c : CoreConte
             subst (λ (m : ℕ). IsPackOn p m k (get_or r.shows.items k None)) (sym e) (last_on k in_level);
         gone = λ k some. absurd (omega (arith, next, some));
         held = λ k in_level.
-            ap (λ (w : Placing). is_held w.onto k) (places ∙ b.at.placed) ∙ ap (λ os. is_held os k) (onto_end p h (round_start 0 kept_ends (length kept_ends - 1)) c.tick last_round)
+            ap (λ (w : Placing). is_held w.onto k) (places ∙ b.at.placed) ∙ ap (λ os. is_held os k)
+            (onto_end p h (round_start 0 kept_ends (length kept_ends - 1)) c.tick last_round)
             ∙ held_some p (round_start 0 kept_ends (length kept_ends - 1)) k (get_or r.shows.items k None) (last_on k in_level);
         room = room;
         long = ap (λ (xs : List (Option Leaf)). length xs) shows ∙ lap.long;

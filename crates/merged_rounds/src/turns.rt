@@ -9,7 +9,8 @@ ghost use Rattle.event_core.specs.Rounds.{IsRoundUpTo};
 ghost use Rattle.merged_rounds.specs.declared.turns.Turn.{Turn as DeclaredTurn};
 ghost use Rattle.merged_rounds.specs.Changes.{AreLeavesOf, IsNone, IsTurning};
 ghost use Rattle.merged_rounds.specs.Laps.{CanComeRound, IsAllTold, IsSumUpTo, round_start};
-ghost use Rattle.merged_rounds.specs.Replays.{AreHolding, AreKept, AreStill, IsPackOn, IsSourceOf, IsTurnOf, packs_kept, packs_of, part_start, shown_kept, turn_end};
+ghost use Rattle.merged_rounds.specs.Replays.{AreHolding, AreKept, AreStill, IsPackOn, IsSourceOf, IsTurnOf};
+ghost use Rattle.merged_rounds.specs.Replays.{packs_kept, packs_of, part_start, shown_kept, turn_end};
 
 use crate::changed::{first_of, merge_telling, merge_whole, room_for_told, shown_leaves};
 use crate::looks::no_leaves;

@@ -1,5 +1,6 @@
 -- Lanes of which some go on as is told, and the others as before.
-use Rattle.std.proofs.Common.{◌≡◌, ◌≢◌, ℕ, zero, suc, ◌+◌, ◌<◌, ◌⊎◌, inl, inr, true, List, [], ◌∷◌, ◌++◌, None, Some, length, length-set, map, set, get_or, get_or-set_same, get_or-set_other, Option, eq-eqb, refl, sym, ap, ◌∙◌, arith}
+use Rattle.std.proofs.Common.{◌≡◌, ◌≢◌, ℕ, zero, suc, ◌+◌, ◌<◌, ◌⊎◌, inl, inr, true, List, [], ◌∷◌, ◌++◌, None, Some, length, length-set, map, set}
+use Rattle.std.proofs.Common.{get_or, get_or-set_same, get_or-set_other, Option, eq-eqb, refl, sym, ap, ◌∙◌, arith}
 use Rattle.std.proofs.lemmas.Bool.{cases_Bool, cases_eq, cases_lt, cond-true, cond-false}
 use Rattle.std.proofs.lemmas.List.{ext_get_or}
 use Rattle.std.specs.Prelude.{slice_get}
@@ -23,7 +24,8 @@ shows_pushed (b ∷ (c ∷ lane)) start leaf = shows_pushed (c ∷ lane) start l
 going_twice : (lane : List Begun) (start : ℕ) (o : Option Leaf) → going_on (going_on lane start o) start o ≡ going_on lane start o
 going_twice lane start None = refl
 going_twice lane start (Some leaf) = elim (cases_Bool (shows_last lane leaf)) [
-  | inl on ↦ (let e : showing lane start leaf ≡ lane = cond-true (shows_last lane leaf) lane (lane ++ new_row start leaf ∷ []) on in ap (λ l. showing l start leaf) e)
+  | inl on ↦ (let e : showing lane start leaf ≡ lane = cond-true (shows_last lane leaf) lane (lane ++ new_row start leaf ∷ []) on in
+      ap (λ l. showing l start leaf) e)
   | inr off ↦
       (let e : showing lane start leaf ≡ lane ++ new_row start leaf ∷ [] = cond-false (shows_last lane leaf) lane (lane ++ new_row start leaf ∷ []) off in
       let more = lane ++ new_row start leaf ∷ [] in
@@ -47,8 +49,10 @@ any_default [] p d e l = absurd (omega (arith, l))
 any_default (x ∷ xs) zero d e l = refl
 any_default (x ∷ xs) (suc p) d e l = any_default xs p d e (omega (arith, l))
 
-pub on_step : (first : List (List Begun)) (start : ℕ) (changed : List ℕ) (told : List (Option Leaf)) (lanes lanes' : List (List Begun)) (n p : ℕ) (d : List Begun) (d' : Option Leaf) → p ≡ get_or changed n 0 → p < length first →
-    length told ≡ length first → lanes' ≡ set lanes p (going_on (get_or lanes p d) start (get_or told p d')) → AreGoingOn first start changed told lanes n → AreGoingOn first start changed told lanes' (n + 1)
+pub on_step : (first : List (List Begun)) (start : ℕ) (changed : List ℕ) (told : List (Option Leaf)) (lanes lanes' : List (List Begun)) (n p : ℕ)
+    (d : List Begun) (d' : Option Leaf) → p ≡ get_or changed n 0 → p < length first →
+    length told ≡ length first → lanes' ≡ set lanes p (going_on (get_or lanes p d) start (get_or told p d')) → AreGoingOn first start changed told lanes n →
+    AreGoingOn first start changed told lanes' (n + 1)
 on_step first start changed told lanes lanes' n p d d' at l whole is h = record {
   long = ap length is ∙ length-set lanes p _ ∙ h.long;
   each = λ q m. elim (cases_eq q p) [
@@ -64,7 +68,8 @@ on_step first start changed told lanes lanes' n p d d' at l whole is h = record 
         ∙ ap (λ x. going_on x start (get_or told p d')) (any_default lanes p d [] (omega (arith, l, long)))
         ∙ ap (going_on (get_or lanes p []) start) (any_default told p d' None (omega (arith, l, whole)))
 
-    own : (get_or lanes p [] ≡ going_on (get_or first p []) start (get_or told p None)) ⊎ ((get_or lanes p [] ≡ get_or first p []) × ((k : ℕ) → k < n → get_or changed k 0 ≢ p)) →
+    own : (get_or lanes p [] ≡ going_on (get_or first p []) start (get_or told p None)) ⊎ ((get_or lanes p [] ≡ get_or first p []) × ((k : ℕ) → k < n →
+        get_or changed k 0 ≢ p)) →
         get_or lanes' p [] ≡ going_on (get_or first p []) start (get_or told p None)
     own (inl on) = here ∙ ap (λ x. going_on x start (get_or told p None)) on ∙ going_twice (get_or first p []) start (get_or told p None)
     own (inr was) = here ∙ ap (λ x. going_on x start (get_or told p None)) was.0
@@ -78,8 +83,10 @@ on_step first start changed told lanes lanes' n p d d' at l whole is h = record 
       | inr high ↦ ne (sym e ∙ ap (λ j. get_or changed j 0) (let f : k ≡ n = omega (arith, b, high) in f) ∙ sym at)
     ]
 
-    other : (q : ℕ) → q < length first → q ≢ p → (get_or lanes q [] ≡ going_on (get_or first q []) start (get_or told q None)) ⊎ ((get_or lanes q [] ≡ get_or first q []) × ((k : ℕ) → k < n → get_or changed k 0 ≢ q)) →
-        (get_or lanes' q [] ≡ going_on (get_or first q []) start (get_or told q None)) ⊎ ((get_or lanes' q [] ≡ get_or first q []) × ((k : ℕ) → k < n + 1 → get_or changed k 0 ≢ q))
+    other : (q : ℕ) → q < length first → q ≢ p → (get_or lanes q [] ≡ going_on (get_or first q []) start (get_or told q None))
+        ⊎ ((get_or lanes q [] ≡ get_or first q []) × ((k : ℕ) → k < n → get_or changed k 0 ≢ q)) →
+        (get_or lanes' q [] ≡ going_on (get_or first q []) start (get_or told q None)) ⊎ ((get_or lanes' q [] ≡ get_or first q []) × ((k : ℕ) → k < n + 1 →
+        get_or changed k 0 ≢ q))
     other q m ne (inl on) = inl (ap (λ ls. get_or ls q []) is ∙ set_other lanes p q _ ne ∙ on)
     other q m ne (inr was) = inr (ap (λ ls. get_or ls q []) is ∙ set_other lanes p q _ ne ∙ was.0, λ k b. later q k ne was.1 b)
 
@@ -91,7 +98,8 @@ showing_at (lane ∷ lanes) start (r ∷ rows) zero none l m = refl
 showing_at (lane ∷ lanes) start (r ∷ rows) (suc p) none l m = showing_at lanes start rows p none (omega (arith, l)) (omega (arith, m))
 
 -- where it is known of each processor what its row shows, and the others go on, all of them show what their rows do
-pub on_shown : (first : List (List Begun)) (start : ℕ) (changed : List ℕ) (told : List (Option Leaf)) (lanes : List (List Begun)) (rows : List Row) → length rows ≡ length first →
+pub on_shown : (first : List (List Begun)) (start : ℕ) (changed : List ℕ) (told : List (Option Leaf)) (lanes : List (List Begun)) (rows : List Row) →
+    length rows ≡ length first →
     AreShown (lanes_up_to 0 start first) changed told rows → AreGoingOn first start changed told lanes (length changed) → lanes ≡ showing_each first start rows
 on_shown first start changed told lanes rows whole shows h =
     let same = h.long in
@@ -101,11 +109,17 @@ on_shown first start changed told lanes rows whole shows h =
     one p m)
   where
     known : (p : ℕ) (r : Row) → p < length first → slice_get rows p ≡ Some r →
-        (get_or lanes p [] ≡ going_on (get_or first p []) start (get_or told p None)) ⊎ ((get_or lanes p [] ≡ get_or first p []) × ((k : ℕ) → k < length changed → get_or changed k 0 ≢ p)) →
-        (get_or lanes p [] ≡ going_on (get_or first p []) start (get_or told p None)) ⊎ ((get_or lanes p [] ≡ get_or first p []) × (ends_showing (rows_up_to p start (get_or first p [])) r.leaf ≡ true))
+        (get_or lanes p [] ≡ going_on (get_or first p []) start (get_or told p None)) ⊎ ((get_or lanes p [] ≡ get_or first p [])
+        × ((k : ℕ) → k < length changed → get_or changed k 0 ≢ p)) →
+        (get_or lanes p [] ≡ going_on (get_or first p []) start (get_or told p None)) ⊎ ((get_or lanes p [] ≡ get_or first p [])
+        × (ends_showing (rows_up_to p start (get_or first p [])) r.leaf ≡ true))
     known p r m at (inl on) = inl on
     known p r m at (inr was) =
-        inr (was.0, ap (λ xs. ends_showing xs r.leaf) (sym (lane_here start first p (get_or first p []) m (any_default first p [] (get_or first p []) m))) ∙ shows.rest p r at was.1)
+        inr (
+          was.0,
+          ap (λ xs. ends_showing xs r.leaf) (sym (lane_here start first p (get_or first p []) m (any_default first p [] (get_or first p []) m)))
+              ∙ shows.rest p r at was.1,
+        )
 
     at_row : (p : ℕ) (r : Row) → p < length first → slice_get rows p ≡ Some r → get_or lanes p [] ≡ showing (get_or first p []) start r.leaf
     at_row p r m at = one_shown p start (get_or first p []) (get_or lanes p []) (get_or told p None) r.leaf (shows.each p r at) (known p r m at (h.each p m))
@@ -117,8 +131,10 @@ on_shown first start changed told lanes rows whole shows h =
         at_row p r m (slice_get-get_or rows p none (omega (arith, m, whole))) ∙ sym (showing_at first start rows p none m (omega (arith, m, whole)))
 
 -- and then these are the rows with that round
-pub shown_round : (first : List (List Begun)) (start : ℕ) (changed : List ℕ) (told : List (Option Leaf)) (lanes : List (List Begun)) (rows : List Row) (raw : List (List Row)) → length rows ≡ length first →
-    IsRound start rows → lanes_up_to 0 start first ≡ map merged raw → AreShown (lanes_up_to 0 start first) changed told rows → AreGoingOn first start changed told lanes (length changed) →
+pub shown_round : (first : List (List Begun)) (start : ℕ) (changed : List ℕ) (told : List (Option Leaf)) (lanes : List (List Begun)) (rows : List Row)
+    (raw : List (List Row)) → length rows ≡ length first →
+    IsRound start rows → lanes_up_to 0 start first ≡ map merged raw → AreShown (lanes_up_to 0 start first) changed told rows → AreGoingOn first start
+    changed told lanes (length changed) →
     lanes_up_to 0 (end_after start rows) lanes ≡ map merged (with_round raw rows)
 shown_round first start changed told lanes rows raw whole round is shows h =
     ap (lanes_up_to 0 (end_after start rows)) (on_shown first start changed told lanes rows whole shows h) ∙ with_next start first raw rows whole round is

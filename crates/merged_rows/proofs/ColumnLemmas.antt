@@ -1,5 +1,6 @@
 -- Rows by where they begin: one row more, one round more.
-use Rattle.std.proofs.Common.{◌≡◌, ℕ, zero, suc, ◌+◌, ◌-◌, ◌<◌, ◌⊎◌, inl, inr, true, false, List, [], ◌∷◌, ◌++◌, ◌&&◌, Some, None, length, map, take, drop, set, get_or, replicate, Option, eqb, eq-eqb, refl, sym, ap, ◌∙◌, arith, add-one}
+use Rattle.std.proofs.Common.{◌≡◌, ℕ, zero, suc, ◌+◌, ◌-◌, ◌<◌, ◌⊎◌, inl, inr, true, false, List, [], ◌∷◌, ◌++◌, ◌&&◌, Some, None, length, map, take}
+use Rattle.std.proofs.Common.{drop, set, get_or, replicate, Option, eqb, eq-eqb, refl, sym, ap, ◌∙◌, arith, add-one}
 use Rattle.std.specs.Prelude.{slice_get}
 use Rattle.std.proofs.lemmas.Bool.{cases_Bool, cond-true, cond-false, ne_eqb}
 use Rattle.std.proofs.lemmas.Bool.Decides.{eqb_tells}
@@ -10,7 +11,8 @@ use Rattle.sched_base.specs.declared.rows.Row.{Row}
 use Rattle.sched_base.specs.Tables.{IsRound, end_after, lane_of, with_round}
 use Rattle.merged_rows.specs.Merging.{shown, merged}
 use Rattle.merged_rows.proofs.MergeLemmas.{goes_on}
-use Rattle.merged_rows.specs.Columns.{Begun, rows_up_to, lanes_up_to, last_mark, shows_last, showing, showing_each, going_on, going_on_each, ends_showing, AreChangesTold, MergedContents}
+use Rattle.merged_rows.specs.Columns.{Begun, rows_up_to, lanes_up_to, last_mark, shows_last, showing, showing_each, going_on, going_on_each}
+use Rattle.merged_rows.specs.Columns.{ends_showing, AreChangesTold, MergedContents}
 use Rattle.merged_rows.proofs.PushLemmas.{merged_with, merged_round, round_push}
 
 -- ---- one lane
@@ -24,10 +26,12 @@ abbrev pub row_on : ℕ → ℕ → ℕ → Leaf → Row
 row_on p start end leaf = record { processor = p; start = start; end = end; leaf = leaf }
 
 -- where it shows the same as the last row, that one goes on
-row_goes_on : (p end to : ℕ) (lane : List Begun) (leaf : Leaf) → shows_last lane leaf ≡ true → merged_with (rows_up_to p end lane) (row_on p end to leaf) ≡ rows_up_to p to lane
+row_goes_on : (p end to : ℕ) (lane : List Begun) (leaf : Leaf) → shows_last lane leaf ≡ true → merged_with (rows_up_to p end lane) (row_on p end to leaf)
+    ≡ rows_up_to p to lane
 row_goes_on p end to [] leaf on = absurd (let e : false ≡ true = on in cc)
 row_goes_on p end to (b ∷ []) leaf on =
-    cond-true (goes_on (row_on p b.start end b.leaf) (row_on p end to leaf)) (row_on p b.start to b.leaf ∷ []) (row_on p b.start end b.leaf ∷ (row_on p end to leaf ∷ []))
+    cond-true (goes_on (row_on p b.start end b.leaf) (row_on p end to leaf)) (row_on p b.start to b.leaf ∷ []) (row_on p b.start end b.leaf ∷ (row_on p end
+    to leaf ∷ []))
     (let here : eqb end end ≡ true = eq-eqb end end refl in ap (λ x. x && eqb (shown b.leaf) (shown leaf)) here ∙ on)
 row_goes_on p end to (b ∷ (c ∷ [])) leaf on = ap (λ rows. row_on p b.start c.start b.leaf ∷ rows) (row_goes_on p end to (c ∷ []) leaf on)
 row_goes_on p end to (b ∷ (c ∷ (d ∷ lane))) leaf on = ap (λ rows. row_on p b.start c.start b.leaf ∷ rows) (row_goes_on p end to (c ∷ (d ∷ lane)) leaf on)
@@ -37,12 +41,14 @@ row_begins : (p end to : ℕ) (lane : List Begun) (leaf : Leaf) → shows_last l
     → merged_with (rows_up_to p end lane) (row_on p end to leaf) ≡ rows_up_to p to (lane ++ new_row end leaf ∷ [])
 row_begins p end to [] leaf off = refl
 row_begins p end to (b ∷ []) leaf off =
-    cond-false (goes_on (row_on p b.start end b.leaf) (row_on p end to leaf)) (row_on p b.start to b.leaf ∷ []) (row_on p b.start end b.leaf ∷ (row_on p end to leaf ∷ []))
+    cond-false (goes_on (row_on p b.start end b.leaf) (row_on p end to leaf)) (row_on p b.start to b.leaf ∷ []) (row_on p b.start end b.leaf ∷ (row_on p end
+    to leaf ∷ []))
     (let here : eqb end end ≡ true = eq-eqb end end refl in ap (λ x. x && eqb (shown b.leaf) (shown leaf)) here ∙ off)
 row_begins p end to (b ∷ (c ∷ [])) leaf off = ap (λ rows. row_on p b.start c.start b.leaf ∷ rows) (row_begins p end to (c ∷ []) leaf off)
 row_begins p end to (b ∷ (c ∷ (d ∷ lane))) leaf off = ap (λ rows. row_on p b.start c.start b.leaf ∷ rows) (row_begins p end to (c ∷ (d ∷ lane)) leaf off)
 
-lane_shows : (p end to : ℕ) (lane : List Begun) (leaf : Leaf) → merged_with (rows_up_to p end lane) (row_on p end to leaf) ≡ rows_up_to p to (showing lane end leaf)
+lane_shows : (p end to : ℕ) (lane : List Begun) (leaf : Leaf) → merged_with (rows_up_to p end lane) (row_on p end to leaf) ≡ rows_up_to p to
+    (showing lane end leaf)
 lane_shows p end to lane leaf = elim (cases_Bool (shows_last lane leaf)) [
   | inl on ↦ row_goes_on p end to lane leaf on ∙ ap (rows_up_to p to) (sym (cond-true (shows_last lane leaf) lane (lane ++ new_row end leaf ∷ []) on))
   | inr off ↦ row_begins p end to lane leaf off ∙ ap (rows_up_to p to) (sym (cond-false (shows_last lane leaf) lane (lane ++ new_row end leaf ∷ []) off))
@@ -71,7 +77,8 @@ round_shows a start end (lane ∷ lanes) (r ∷ rows) whole h =
     let first : merged_with (rows_up_to a start lane) r ≡ rows_up_to a end (showing lane start r.leaf) =
     ap (merged_with (rows_up_to a start lane)) (row_is r a start end here is.1 is.2) ∙ lane_shows a start end lane r.leaf in
     ap (λ x. x ∷ merged_round (lanes_up_to (a + 1) start lanes) rows) first
-    ∙ ap (λ xs. rows_up_to a end (showing lane start r.leaf) ∷ xs) (round_shows (a + 1) start end lanes rows (omega (arith, whole)) (next_from a start end r rows h))
+    ∙ ap (λ xs. rows_up_to a end (showing lane start r.leaf) ∷ xs) (round_shows (a + 1) start end lanes rows (omega (arith, whole)) (next_from a start end r
+    rows h))
 
 -- ---- reading
 
@@ -88,13 +95,15 @@ length-lanes_up_to a end (lane ∷ lanes) = ap suc (length-lanes_up_to (a + 1) e
 pub last_row : (p end i : ℕ) (lane : List Begun) (start : ℕ) (leaf : Leaf) → i + 1 ≡ length lane → slice_get lane i ≡ Some (new_row start leaf)
     → slice_get (rows_up_to p end lane) i ≡ Some (row_on p start end leaf)
 last_row p end i [] start leaf last at = absurd (omega (arith, last))
-last_row p end zero (b ∷ []) start leaf last at = let e : Some b ≡ Some (new_row start leaf) = at in let e' : b ≡ new_row start leaf = cc in ap (λ (x : Begun). Some (row_on p x.start end x.leaf)) e'
+last_row p end zero (b ∷ []) start leaf last at = let e : Some b ≡ Some (new_row start leaf) = at in let e' : b ≡ new_row start leaf = cc in
+    ap (λ (x : Begun). Some (row_on p x.start end x.leaf)) e'
 last_row p end (suc i) (b ∷ []) start leaf last at = absurd (omega (arith, last))
 last_row p end zero (b ∷ (c ∷ lane)) start leaf last at = absurd (omega (arith, last))
 last_row p end (suc i) (b ∷ (c ∷ lane)) start leaf last at = last_row p end i (c ∷ lane) start leaf (omega (arith, last)) at
 
 -- each other one up to the start of the next
-pub inner_row : (p end i : ℕ) (lane : List Begun) (start : ℕ) (leaf : Leaf) (next : Begun) → slice_get lane i ≡ Some (new_row start leaf) → slice_get lane (i + 1) ≡ Some next
+pub inner_row : (p end i : ℕ) (lane : List Begun) (start : ℕ) (leaf : Leaf) (next : Begun) → slice_get lane i ≡ Some (new_row start leaf) →
+    slice_get lane (i + 1) ≡ Some next
     → slice_get (rows_up_to p end lane) i ≡ Some (row_on p start next.start leaf)
 inner_row p end i [] start leaf next at then = absurd (let e : None ≡ Some (new_row start leaf) = at in cc)
 inner_row p end zero (b ∷ []) start leaf next at then = absurd (let e : None ≡ Some next = then in cc)
@@ -114,7 +123,8 @@ pub lane_up_to : (a end : ℕ) (lanes : List (List Begun)) (p : ℕ) (lane : Lis
 lane_up_to a end [] p none within = absurd (omega (arith, within))
 lane_up_to a end (lane ∷ lanes) zero none within = let e : a ≡ a + 0 = omega arith in ap (λ n. rows_up_to n end lane) e
 lane_up_to a end (lane ∷ lanes) (suc p) none within =
-    let e : a + 1 + p ≡ a + suc p = omega arith in lane_up_to (a + 1) end lanes p none (omega (arith, within)) ∙ ap (λ n. rows_up_to n end (get_or lanes p none)) e
+    let e : a + 1 + p ≡ a + suc p = omega arith in lane_up_to (a + 1) end lanes p none (omega (arith, within))
+    ∙ ap (λ n. rows_up_to n end (get_or lanes p none)) e
 
 -- ---- the loop over the processors
 
@@ -165,7 +175,8 @@ get_or-going (l ∷ lanes) start told zero lane within = refl
 get_or-going (l ∷ lanes) start [] (suc p) lane within = refl
 get_or-going (l ∷ lanes) start (o ∷ told) (suc p) lane within = get_or-going lanes start told p lane (omega (arith, within))
 
-going_next : (lanes : List (List Begun)) (start : ℕ) (told : List (Option Leaf)) (p : ℕ) (lane : List Begun) (o : Option Leaf) → p < length lanes → p < length told
+going_next : (lanes : List (List Begun)) (start : ℕ) (told : List (Option Leaf)) (p : ℕ) (lane : List Begun) (o : Option Leaf) → p < length lanes →
+    p < length told
     → set (going_on_each lanes start (take p told)) p (going_on (get_or lanes p lane) start (get_or told p o)) ≡ going_on_each lanes start (take (suc p) told)
 going_next [] start told p lane o a b = absurd (omega (arith, a))
 going_next (l ∷ lanes) start [] p lane o a b = absurd (omega (arith, b))
@@ -174,7 +185,8 @@ going_next (l ∷ lanes) start (x ∷ told) (suc p) lane o a b =
     ap (λ ls. going_on l start x ∷ ls) (going_next lanes start told p lane o (omega (arith, a)) (omega (arith, b)))
 
 -- a step of the loop
-pub going_more : (lanes : List (List Begun)) (start : ℕ) (told : List (Option Leaf)) (p : ℕ) (lane : List Begun) (o : Option Leaf) → p < length lanes → p < length told
+pub going_more : (lanes : List (List Begun)) (start : ℕ) (told : List (Option Leaf)) (p : ℕ) (lane : List Begun) (o : Option Leaf) → p < length lanes →
+    p < length told
     → set (going_on_each lanes start (take p told)) p (going_on (get_or lanes p lane) start (get_or told p o)) ≡ going_on_each lanes start (take (p + 1) told)
 going_more lanes start told p lane o a b = rw add-one (going_next lanes start told p lane o a b)
 
@@ -204,13 +216,15 @@ ends_as p end (b ∷ []) leaf = refl
 ends_as p end (b ∷ (c ∷ [])) leaf = refl
 ends_as p end (b ∷ (c ∷ (d ∷ lane))) leaf = ends_as p end (c ∷ (d ∷ lane)) leaf
 
-one_told : (p start : ℕ) (lane : List Begun) (o : Option Leaf) (leaf : Leaf) → ((l : Leaf) → o ≡ Some l → l ≡ leaf) → (o ≡ None → ends_showing (rows_up_to p start lane) leaf ≡ true)
+one_told : (p start : ℕ) (lane : List Begun) (o : Option Leaf) (leaf : Leaf) → ((l : Leaf) → o ≡ Some l → l ≡ leaf) →
+    (o ≡ None → ends_showing (rows_up_to p start lane) leaf ≡ true)
     → going_on lane start o ≡ showing lane start leaf
 one_told p start lane None leaf some none =
     sym (cond-true (shows_last lane leaf) lane (lane ++ new_row start leaf ∷ []) (sym (ends_as p start lane leaf) ∙ none refl))
 one_told p start lane (Some l) leaf some none = ap (showing lane start) (some l refl)
 
-later_told : (first : List Row) (lanes : List (List Row)) (o : Option Leaf) (told : List (Option Leaf)) (r : Row) (rows : List Row) → AreChangesTold (first ∷ lanes) (o ∷ told) (r ∷ rows) → AreChangesTold lanes told rows
+later_told : (first : List Row) (lanes : List (List Row)) (o : Option Leaf) (told : List (Option Leaf)) (r : Row) (rows : List Row) →
+    AreChangesTold (first ∷ lanes) (o ∷ told) (r ∷ rows) → AreChangesTold lanes told rows
 later_told first lanes o told r rows h = record {
   long = (let long = h.long in omega (arith, long));
   some = λ p s leaf at is. h.some (suc p) s leaf at is;
@@ -226,10 +240,12 @@ told_is a start (lane ∷ lanes) [] (r ∷ rows) h = absurd (let long = h.long i
 told_is a start (lane ∷ lanes) (o ∷ told) [] h = absurd (let long = h.long in omega (arith, long))
 told_is a start (lane ∷ lanes) (o ∷ told) (r ∷ rows) h =
     ap (λ x. x ∷ going_on_each lanes start told) (one_told a start lane o r.leaf (λ leaf is. h.some 0 r leaf refl is) (λ is. h.none 0 r refl is))
-    ∙ ap (λ xs. showing lane start r.leaf ∷ xs) (told_is (a + 1) start lanes told rows (later_told (rows_up_to a start lane) (lanes_up_to (a + 1) start lanes) o told r rows h))
+    ∙ ap (λ xs. showing lane start r.leaf ∷ xs) (told_is (a + 1) start lanes told rows (later_told (rows_up_to a start lane) (lanes_up_to (a + 1) start
+    lanes) o told r rows h))
 
 -- each processor shows what its row does, or goes on where its last row shows the same
-pub one_shown : (a start : ℕ) (lane now : List Begun) (o : Option Leaf) (leaf : Leaf) → o ≡ Some leaf → (now ≡ going_on lane start o) ⊎ ((now ≡ lane) × (ends_showing (rows_up_to a start lane) leaf ≡ true)) →
+pub one_shown : (a start : ℕ) (lane now : List Begun) (o : Option Leaf) (leaf : Leaf) → o ≡ Some leaf → (now ≡ going_on lane start o)
+    ⊎ ((now ≡ lane) × (ends_showing (rows_up_to a start lane) leaf ≡ true)) →
     now ≡ showing lane start leaf
 one_shown a start lane now o leaf is (inl on) = on ∙ ap (going_on lane start) is
 one_shown a start lane now o leaf is (inr was) =
@@ -248,11 +264,13 @@ lane_here end lanes p lane within is =
     lane_up_to 0 end lanes p lane within ∙ ap (λ n. rows_up_to n end (get_or lanes p lane)) e ∙ ap (rows_up_to p end) (sym is)
 
 -- what is seen of the lanes is as many as they are
-pub seen_many : (m : MergedContents) (end : ℕ) (held : List (List Begun)) → record { lanes = lanes_up_to 0 end held; end = end; begun = held } ≡ m → length m.lanes ≡ length held
+pub seen_many : (m : MergedContents) (end : ℕ) (held : List (List Begun)) → record { lanes = lanes_up_to 0 end held; end = end; begun = held } ≡ m →
+    length m.lanes ≡ length held
 seen_many m end held is = ap (λ (x : MergedContents). length x.lanes) (sym is) ∙ length-lanes_up_to 0 end held
 
 -- what is seen of the lane of processor p, which was read
-pub seen_lane : (m : MergedContents) (end : ℕ) (held : List (List Begun)) (p : ℕ) (lane : List Begun) → record { lanes = lanes_up_to 0 end held; end = end; begun = held } ≡ m → p < length m.lanes
+pub seen_lane : (m : MergedContents) (end : ℕ) (held : List (List Begun)) (p : ℕ) (lane : List Begun) →
+    record { lanes = lanes_up_to 0 end held; end = end; begun = held } ≡ m → p < length m.lanes
     → lane ≡ get_or held p lane → lane_of m.lanes p ≡ rows_up_to p end lane
 seen_lane m end held p lane is within read =
     let many = seen_many m end held is in
@@ -281,11 +299,14 @@ from_round start (q ∷ rows) h =
     }
 
 -- the round, merged with what is there
-pub with_next : (start : ℕ) (held : List (List Begun)) (lanes : List (List Row)) (rows : List Row) → length rows ≡ length held → IsRound start rows → lanes_up_to 0 start held ≡ map merged lanes
+pub with_next : (start : ℕ) (held : List (List Begun)) (lanes : List (List Row)) (rows : List Row) → length rows ≡ length held → IsRound start rows →
+    lanes_up_to 0 start held ≡ map merged lanes
     → lanes_up_to 0 (end_after start rows) (showing_each held start rows) ≡ map merged (with_round lanes rows)
 with_next start held lanes rows whole round is =
-    sym (round_shows 0 start (end_after start rows) held rows whole (from_round start rows round)) ∙ ap (λ ls. merged_round ls rows) is ∙ sym (round_push lanes rows)
+    sym (round_shows 0 start (end_after start rows) held rows whole (from_round start rows round)) ∙ ap (λ ls. merged_round ls rows) is
+    ∙ sym (round_push lanes rows)
 
 -- what a loan of all lanes leaves
-pub written_back : (lanes seen new now : List (List Begun)) (n : ℕ) → seen ≡ lanes → length seen ≡ n → length new ≡ length seen → new ≡ now → take n (new ++ drop (length new) lanes) ≡ now
+pub written_back : (lanes seen new now : List (List Begun)) (n : ℕ) → seen ≡ lanes → length seen ≡ n → length new ≡ length seen → new ≡ now →
+    take n (new ++ drop (length new) lanes) ≡ now
 written_back lanes seen new now n same many as_many is = take_at new (drop (length new) lanes) n (as_many ∙ many) ∙ is

@@ -21,8 +21,10 @@ joined r q (s ∷ rows) on = elim (cases_Bool (goes_on q s)) [
 apart : (r q : Row) (rows : List Row) → goes_on r q ≡ false → merge_onto r (merge_onto q rows) ≡ r ∷ merge_onto q rows
 apart r q [] off = onto_off r q [] off
 apart r q (s ∷ rows) off = elim (cases_Bool (goes_on q s)) [
-  | inl late ↦ ap (merge_onto r) (onto_on q s rows late) ∙ onto_off r (lengthened q s.end) rows off ∙ ap (λ (rs : List Row). r ∷ rs) (sym (onto_on q s rows late))
-  | inr not_late ↦ ap (merge_onto r) (onto_off q s rows not_late) ∙ onto_off r q (s ∷ rows) off ∙ ap (λ (rs : List Row). r ∷ rs) (sym (onto_off q s rows not_late))
+  | inl late ↦ ap (merge_onto r) (onto_on q s rows late) ∙ onto_off r (lengthened q s.end) rows off ∙ ap (λ (rs : List Row). r ∷ rs)
+      (sym (onto_on q s rows late))
+  | inr not_late ↦ ap (merge_onto r) (onto_off q s rows not_late) ∙ onto_off r q (s ∷ rows) off ∙ ap (λ (rs : List Row). r ∷ rs)
+      (sym (onto_off q s rows not_late))
 ]
 
 from_there : (lane : List Row) (k : ℕ) (r : Row) → slice_get lane k ≡ Some r → drop k lane ≡ r ∷ drop (suc k) lane
@@ -40,9 +42,11 @@ pub held_on : (lane : List Row) (k : ℕ) (held r : Row) → slice_get lane k �
 held_on lane k held r at on = ap (merge_onto held) (merged_from lane k r at) ∙ joined held r (merged (drop (k + 1) lane)) on
 
 -- or it is done
-pub held_off : (lane : List Row) (k : ℕ) (held r : Row) → slice_get lane k ≡ Some r → goes_on held r ≡ false → merge_onto held (merged (drop k lane)) ≡ held ∷ merged (drop k lane)
+pub held_off : (lane : List Row) (k : ℕ) (held r : Row) → slice_get lane k ≡ Some r → goes_on held r ≡ false → merge_onto held (merged (drop k lane)) ≡ held
+    ∷ merged (drop k lane)
 held_off lane k held r at off =
-    ap (merge_onto held) (merged_from lane k r at) ∙ apart held r (merged (drop (k + 1) lane)) off ∙ ap (λ (rs : List Row). held ∷ rs) (sym (merged_from lane k r at))
+    ap (merge_onto held) (merged_from lane k r at) ∙ apart held r (merged (drop (k + 1) lane)) off ∙ ap (λ (rs : List Row). held ∷ rs)
+    (sym (merged_from lane k r at))
 
 -- past the last round there is no row
 pub none_from : (lane : List Row) (k : ℕ) → length lane ≤ k → drop k lane ≡ []

@@ -18,7 +18,8 @@ use Rattle.merged_rows.proofs.PushLemmas.{all_merged}
 
 -- ---- of each lane, merged
 
-all_of : (P Q : List Row → Type 0) → ((rows : List Row) → P rows → Q (merged rows)) → (lanes : List (List Row)) → AllByRecursion P lanes → AllByRecursion Q (map merged lanes)
+all_of : (P Q : List Row → Type 0) → ((rows : List Row) → P rows → Q (merged rows)) → (lanes : List (List Row)) → AllByRecursion P lanes →
+    AllByRecursion Q (map merged lanes)
 all_of P Q f [] all = tt
 all_of P Q f (lane ∷ lanes) all = (f lane all.0, all_of P Q f lanes all.1)
 
@@ -45,7 +46,8 @@ count_of_all (lane ∷ lanes) k whole =
 
 merged_fit : (lanes : List (List Row)) → IsTable lanes → TicksFit (all_rows (map merged lanes))
 merged_fit lanes table j =
-    let e : ticks_in j (all_rows (map merged lanes)) ≡ ticks_in j (all_rows lanes) = ap (ticks_in j) (all_merged lanes) ∙ ticks_merged_lanes j lanes (forward_lanes lanes table) in
+    let e : ticks_in j (all_rows (map merged lanes)) ≡ ticks_in j (all_rows lanes) = ap (ticks_in j) (all_merged lanes) ∙ ticks_merged_lanes j lanes
+    (forward_lanes lanes table) in
     let f = ticks_fit j lanes table in
     let wide : 2 ^ 127 < 2 ^ 128 = lit< tt in
     omega (arith, e, f, wide)
@@ -53,11 +55,13 @@ merged_fit lanes table j =
 -- ---- of a table
 
 -- the merged rows of a table of so many rounds, of which each lane names tasks of the set
-pub lawful_rows : (s : SetContents) (raw : List (List Row)) (rounds : ℕ) → length raw ≡ s.processors → AllByRecursion (AllByRecursion (λ r. NamesOneOf s.tasks r.leaf)) raw
+pub lawful_rows : (s : SetContents) (raw : List (List Row)) (rounds : ℕ) → length raw ≡ s.processors →
+    AllByRecursion (AllByRecursion (λ r. NamesOneOf s.tasks r.leaf)) raw
     → IsTable raw → rounds_in raw ≡ rounds → rounds * s.processors ≤ row_limit → AreLawful s (map merged raw)
 lawful_rows s raw rounds many names table count few = record {
   processors = length-map raw merged ∙ many;
-  names = all_of (AllByRecursion (λ r. NamesOneOf s.tasks r.leaf)) (NamesAmong (length s.tasks)) (λ rows named. names_merged (length s.tasks) rows (names_among s.tasks rows named)) raw names;
+  names = all_of (AllByRecursion (λ r. NamesOneOf s.tasks r.leaf)) (NamesAmong (length s.tasks)) (λ rows named. names_merged (length s.tasks) rows
+      (names_among s.tasks rows named)) raw names;
   forward = all_of AreForward AreForward forward_merged raw (forward_lanes raw table);
   few =
       (let less = few_of_all raw in
@@ -70,7 +74,8 @@ lawful_rows s raw rounds many names table count few = record {
 -- ---- rounds
 
 -- rows that end at one tick end there
-pub end_of_all : (rows : List Row) (before end : ℕ) → 0 < length rows → ((k : ℕ) (r : Row) → slice_get rows k ≡ Some r → r.end ≡ end) → end_after before rows ≡ end
+pub end_of_all : (rows : List Row) (before end : ℕ) → 0 < length rows → ((k : ℕ) (r : Row) → slice_get rows k ≡ Some r → r.end ≡ end) →
+    end_after before rows ≡ end
 end_of_all [] before end some all = absurd (omega (arith, some))
 end_of_all (r ∷ []) before end some all = all 0 r refl
 end_of_all (r ∷ (q ∷ rows)) before end some all = end_of_all (q ∷ rows) r.end end (omega arith) (λ k s at. all (suc k) s at)

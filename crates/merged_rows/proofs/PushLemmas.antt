@@ -1,5 +1,6 @@
 -- Rows merged as they come, one by one.
-use Rattle.std.proofs.Common.{◌≡◌, ◌<◌, ℕ, zero, suc, inl, inr, true, false, List, [], ◌∷◌, ◌++◌, ◌&&◌, None, Some, length, map, eqb, eq-eqb, sym, refl, ap, ◌∙◌, arith}
+use Rattle.std.proofs.Common.{◌≡◌, ◌<◌, ℕ, zero, suc, inl, inr, true, false, List, [], ◌∷◌, ◌++◌, ◌&&◌, None, Some, length, map, eqb, eq-eqb, sym}
+use Rattle.std.proofs.Common.{refl, ap, ◌∙◌, arith}
 use Rattle.std.specs.Prelude.{slice_get}
 use Rattle.std.proofs.lemmas.Bool.{cases_Bool, and_parts, cond-true, cond-false, eqb-true}
 use Rattle.sched_base.specs.declared.rows.Row.{Row}
@@ -29,7 +30,8 @@ onto_off r q rows e = cond-false (goes_on r q) (lengthened r q.end ∷ rows) (r 
 
 -- a row that goes on with the first of two goes on with both
 pub same_name : (r q next : Row) → goes_on r q ≡ true → goes_on (lengthened r q.end) next ≡ goes_on q next
-same_name r q next e = ap (λ n. eqb q.end next.start && eqb n (shown next.leaf)) (eqb-true (shown r.leaf) (shown q.leaf) (and_parts (eqb r.end q.start) (eqb (shown r.leaf) (shown q.leaf)) e).1)
+same_name r q next e = ap (λ n. eqb q.end next.start && eqb n (shown next.leaf)) (eqb-true (shown r.leaf) (shown q.leaf) (and_parts (eqb r.end q.start)
+    (eqb (shown r.leaf) (shown q.leaf)) e).1)
 
 -- before and after don't disturb each other
 two_onto : (r q last : Row) → merge_onto r (merge_onto q (last ∷ [])) ≡ merged_with (merge_onto r (q ∷ [])) last

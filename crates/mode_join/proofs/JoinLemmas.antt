@@ -84,18 +84,21 @@ module _ (m : ℕ) (before : List SetContents) (s : SetContents) where
   pub after_overload : CanJoin m s → (scale : ℕ) → IsScale s.tasks scale → Fits scale s → (k : ModeKind) → Has m before s k → 4 ≤ rank k
   after_overload can scale is fits kind.Processors has = absurd (has can.same_processors)
   after_overload can scale is fits (kind.Offset task) has = absurd (has.holds (by_number (λ t. t.offset ≡ 0) s.tasks can.can_repeat.no_offset task has.within))
-  after_overload can scale is fits (kind.Period task) has = absurd (has.holds (by_number (λ t. t.period ∣ s.horizon) s.tasks can.can_repeat.whole_periods task has.within))
+  after_overload can scale is fits (kind.Period task) has = absurd (has.holds (by_number (λ t. t.period ∣ s.horizon) s.tasks can.can_repeat.whole_periods
+      task has.within))
   after_overload can scale is fits (kind.Overload total room) has = absurd (no_overload scale is fits total room has)
   after_overload can scale is fits (kind.TooLong rows) has = omega arith
 
   pub offset_first : s.processors ≡ m → (task : ℕ) → IsFirstTask (λ t. t.offset ≢ 0) s.tasks task → IsFirstOf m before s (kind.Offset task)
   offset_first same task has = record { has = has; first = after_processors same }
 
-  pub period_first : s.processors ≡ m → AllByRecursion (λ t. t.offset ≡ 0) s.tasks → (task : ℕ) → IsFirstTask (λ t. t.period ∣ s.horizon → ⊥) s.tasks task → IsFirstOf m before s (kind.Period task)
+  pub period_first : s.processors ≡ m → AllByRecursion (λ t. t.offset ≡ 0) s.tasks → (task : ℕ) → IsFirstTask (λ t. t.period ∣ s.horizon → ⊥) s.tasks task →
+      IsFirstOf m before s (kind.Period task)
   period_first same zeros task has = record { has = has; first = after_offset same zeros }
 
   pub overload_first : CanJoin m s → (total room : ℕ) → IsOverload s total room → IsFirstOf m before s (kind.Overload total room)
   overload_first can total room has = record { has = has; first = after_period can }
 
-  pub too_long_first : CanJoin m s → (scale : ℕ) → IsScale s.tasks scale → Fits scale s → (rows : ℕ) → Has m before s (kind.TooLong rows) → IsFirstOf m before s (kind.TooLong rows)
+  pub too_long_first : CanJoin m s → (scale : ℕ) → IsScale s.tasks scale → Fits scale s → (rows : ℕ) → Has m before s (kind.TooLong rows) →
+      IsFirstOf m before s (kind.TooLong rows)
   too_long_first can scale is fits rows has = record { has = has; first = after_overload can scale is fits }

@@ -21,7 +21,8 @@ use Rattle.mode_join.specs.declared.faults.ModeKind.{ModeKind}
 use Rattle.mode_join.specs.declared.faults.ModeKind.TheVariants as kind
 use Rattle.mode_join.specs.declared.faults.ModeFault.{ModeFault}
 use Rattle.mode_join.specs.declared.faults.ModeFault.TheVariants as fault
-use Rattle.mode_join.specs.Joining.{CanJoin, IsPlanOf, Has, HasAt, IsFirstOf, IsFirstFlaw, CanBeJoined, SaysOf, RefusesAs, IsOverloadOf, IsTooLongAfter, processors_of, rank, rows_of}
+use Rattle.mode_join.specs.Joining.{CanJoin, IsPlanOf, Has, HasAt, IsFirstOf, IsFirstFlaw, CanBeJoined, SaysOf, RefusesAs, IsOverloadOf}
+use Rattle.mode_join.specs.Joining.{IsTooLongAfter, processors_of, rank, rows_of}
 use Rattle.mode_join.specs.Modes.{ModesContents, IsMode, AreModes, PeriodsEndIn, sets_of}
 use Rattle.mode_join.proofs.JoinLemmas.{by_number, after_overload, overload_first, too_long_first}
 
@@ -36,7 +37,8 @@ all_rows_of modes = sum_by (λ (m : Mode). rows_of m.plan) modes
 -- ---- lists
 
 get_seam : {X : Type 0} (xs : List X) (y : X) (ys : List X) → slice_get (xs ++ y ∷ ys) (length xs) ≡ Some y
-get_seam xs y ys = slice_get-get_or (xs ++ y ∷ ys) (length xs) y (let long = length-append xs (y ∷ ys) in omega (arith, long)) ∙ ap (λ x. Some x) (get_or-append_seam xs y ys y)
+get_seam xs y ys = slice_get-get_or (xs ++ y ∷ ys) (length xs) y (let long = length-append xs (y ∷ ys) in omega (arith, long)) ∙ ap (λ x. Some x)
+    (get_or-append_seam xs y ys y)
 
 get_front : {X : Type 0} (xs ys : List X) (i : ℕ) → i < length xs → slice_get (xs ++ ys) i ≡ slice_get xs i
 get_front [] ys i below = absurd (omega (arith, below))
@@ -94,7 +96,8 @@ periods_end : (m : ℕ) (mode : Mode) → IsMode m mode → PeriodsEndIn mode
 periods_end m mode is i k within begins =
     let t = task_at mode.plan.set.tasks i in
     let zero_offset : t.offset ≡ 0 = by_number (λ x. x.offset ≡ 0) mode.plan.set.tasks is.can_join.can_repeat.no_offset i within in
-    let divides : t.period ∣ mode.plan.set.horizon = by_number (λ x. x.period ∣ mode.plan.set.horizon) mode.plan.set.tasks is.can_join.can_repeat.whole_periods i within in
+    let divides : t.period ∣ mode.plan.set.horizon = by_number (λ x. x.period ∣ mode.plan.set.horizon) mode.plan.set.tasks
+    is.can_join.can_repeat.whole_periods i within in
     let ends = period_ends t.period mode.plan.set.horizon k divides (omega (arith, begins, zero_offset)) in
     omega (arith, ends, zero_offset)
 
@@ -104,14 +107,16 @@ all_end m modes all = all_map (IsMode m) PeriodsEndIn (periods_end m) modes all
 
 -- ---- one mode more
 
-pub modes_push : (m : ℕ) (modes : List Mode) (mode : Mode) → AreModes (record { processors = m; modes = modes }) → IsMode m mode → mode.start ≡ units_of modes → all_rows_of modes + rows_of mode.plan ≤ row_limit
+pub modes_push : (m : ℕ) (modes : List Mode) (mode : Mode) → AreModes (record { processors = m; modes = modes }) → IsMode m mode →
+    mode.start ≡ units_of modes → all_rows_of modes + rows_of mode.plan ≤ row_limit
     → AreModes (record { processors = m; modes = modes ++ mode ∷ [] })
 modes_push m modes mode are is start few = record {
   some_processors = are.some_processors;
   few_processors = are.few_processors;
   each = all_push (IsMode m) modes mode are.each is;
   starts = λ j x at. ⊎_elim
-      (λ before. are.starts j x (sym (get_front modes (mode ∷ []) j before) ∙ at) ∙ ap units_of (sym (take-append-le j modes (mode ∷ []) (omega (arith, before)))))
+      (λ before. are.starts j x (sym (get_front modes (mode ∷ []) j before) ∙ at)
+      ∙ ap units_of (sym (take-append-le j modes (mode ∷ []) (omega (arith, before)))))
       (λ past.
       let within = slice_get_within (modes ++ mode ∷ []) j x at in
       let long = length-append modes (mode ∷ []) in
@@ -134,7 +139,8 @@ same_plan s p q a b =
 
 -- the plans of the first sets and of the next one have no more rows than all modes
 rows_up_to : (m : ℕ) (modes : List Mode) → AllByRecursion (IsMode m) modes → (j : ℕ) (s : SetContents) → slice_get (sets_of modes) j ≡ Some s
-    → (plans : List PlanContents) (p : PlanContents) → AllZip IsPlanOf (take j (sets_of modes)) plans → IsPlanOf s p → sum_by rows_of plans + rows_of p ≤ all_rows_of modes
+    → (plans : List PlanContents) (p : PlanContents) → AllZip IsPlanOf (take j (sets_of modes)) plans → IsPlanOf s p → sum_by rows_of plans + rows_of
+    p ≤ all_rows_of modes
 rows_up_to m [] all j s at plans p zip is = absurd (let e : None ≡ Some s = at in cc)
 rows_up_to m (mode ∷ modes) all zero s at (q ∷ plans) p zip is = absurd zip
 rows_up_to m (mode ∷ modes) all zero s at [] p zip is =
@@ -153,13 +159,15 @@ rows_up_to m (mode ∷ modes) all (suc j) s at (q ∷ plans) p zip is =
     let sum' = sum_by-cons rows_of q plans in
     omega (arith, rows, sum, sum', rest)
 
-mode_of : (m : ℕ) (modes : List Mode) → AllByRecursion (IsMode m) modes → (j : ℕ) (s : SetContents) → slice_get (sets_of modes) j ≡ Some s → (mode : Mode) × IsMode m mode × (mode.plan.set ≡ s)
+mode_of : (m : ℕ) (modes : List Mode) → AllByRecursion (IsMode m) modes → (j : ℕ) (s : SetContents) → slice_get (sets_of modes) j ≡ Some s → (mode : Mode)
+    × IsMode m mode × (mode.plan.set ≡ s)
 mode_of m [] all j s at = absurd (let e : None ≡ Some s = at in cc)
 mode_of m (mode ∷ modes) all zero s at = let same : Some mode.plan.set ≡ Some s = at in (mode, all.0, (cc))
 mode_of m (mode ∷ modes) all (suc j) s at = mode_of m modes all.1 j s at
 
 -- nothing is wrong with the set of a mode
-nothing_wrong : (m : ℕ) (modes : List Mode) → AllByRecursion (IsMode m) modes → all_rows_of modes ≤ row_limit → (j : ℕ) (s : SetContents) → slice_get (sets_of modes) j ≡ Some s
+nothing_wrong : (m : ℕ) (modes : List Mode) → AllByRecursion (IsMode m) modes → all_rows_of modes ≤ row_limit → (j : ℕ) (s : SetContents) →
+    slice_get (sets_of modes) j ≡ Some s
     → (k : ModeKind) → Has m (take j (sets_of modes)) s k → ⊥
 nothing_wrong m modes all few j s at k has = by_kind k has
   where
@@ -180,7 +188,8 @@ nothing_wrong m modes all few j s at k has = by_kind k has
         omega (arith, most, over, few)
 
 -- nothing is wrong with the first sets of a list where they are those of modes
-front_is_good : (m : ℕ) (modes : List Mode) → AllByRecursion (IsMode m) modes → all_rows_of modes ≤ row_limit → (rest : List SetContents) → processors_of (sets_of modes ++ rest) ≡ m
+front_is_good : (m : ℕ) (modes : List Mode) → AllByRecursion (IsMode m) modes → all_rows_of modes ≤ row_limit → (rest : List SetContents) →
+    processors_of (sets_of modes ++ rest) ≡ m
     → (i : ℕ) (k : ModeKind) → i < length (sets_of modes) → HasAt (sets_of modes ++ rest) i k → ⊥
 front_is_good m modes all few rest wide i k below (s, at, has) =
     let front = take-append-le i (sets_of modes) rest (omega (arith, below)) in
@@ -195,7 +204,8 @@ can_be_joined m are sets same wide j k (s, at, has) =
     nothing_wrong m.processors m.modes are.each are.few_rows j s moved k (subst (λ n. Has n (take j (sets_of m.modes)) s k) (sym wide) moved')
 
 -- the refusal of the set behind modes is that of the list
-pub refused_next : (m : ModesContents) → AreModes m → (sets : List SetContents) (set : SetContents) (rest : List SetContents) → sets ≡ sets_of m.modes ++ set ∷ rest → m.processors ≡ processors_of sets
+pub refused_next : (m : ModesContents) → AreModes m → (sets : List SetContents) (set : SetContents) (rest : List SetContents) →
+    sets ≡ sets_of m.modes ++ set ∷ rest → m.processors ≡ processors_of sets
     → (f : ModeFault) → RefusesAs (length m.modes) (IsFirstOf m.processors (sets_of m.modes) set) f → SaysOf sets f
 refused_next m are sets set rest split wide fault.NoMemory refuses = tt
 refused_next m are sets set rest split wide (fault.Refused mode k) refuses =
@@ -213,13 +223,15 @@ refused_next m are sets set rest split wide (fault.Refused mode k) refuses =
           let same' : there.0 ≡ set = cc in
           refuses.1.first other (subst (λ w. Has w front set other) (sym wide')
           (subst (λ xs. Has (processors_of all) xs set other) before (subst (λ s. Has (processors_of all) (take n all) s other) same' there.2)));
-      lowest = λ i other below there. front_is_good m.processors m.modes are.each are.few_rows (set ∷ rest) (sym wide') i other (omega (arith, below, long)) there;
+      lowest = λ i other below there. front_is_good m.processors m.modes are.each are.few_rows (set ∷ rest) (sym wide') i other (omega (arith, below, long))
+          there;
     } in
     subst (λ xs. IsFirstFlaw xs mode k) (sym split) (subst (λ j. IsFirstFlaw all j k) (sym refuses.0) there)
 
 -- ---- what the steps of adding a mode give
 
-pub mode_made : (m : ℕ) (set : SetContents) (p : PlanContents) (rounds start : ℕ) → CanJoin m set → IsPlan p → IsPlanOf set p → Fits p.tree.scale set → rounds ≡ rounds_of p → 1 ≤ rounds
+pub mode_made : (m : ℕ) (set : SetContents) (p : PlanContents) (rounds start : ℕ) → CanJoin m set → IsPlan p → IsPlanOf set p → Fits p.tree.scale set →
+    rounds ≡ rounds_of p → 1 ≤ rounds
     → IsMode m (record { plan = p; rounds = rounds; start = start })
 mode_made m set p rounds start can lawful plan fits count some = record {
   can_join = subst (CanJoin m) (sym plan.set) can;
@@ -251,8 +263,10 @@ rows_of_plans (mode ∷ modes) =
     let sum' = sum_by-cons rows_of mode.plan (map (λ (x : Mode). x.plan) modes) in
     omega (arith, rest, sum, sum')
 
-pub too_long_next : (m : ℕ) (modes : List Mode) → AllByRecursion (IsMode m) modes → (set : SetContents) → CanJoin m set → (p : PlanContents) → IsPlanOf set p → Fits p.tree.scale set
-    → (before mode : ℕ) → before ≡ all_rows_of modes → mode ≡ length modes → (f : ModeFault) → RefusesAs mode (IsTooLongAfter before p) f → RefusesAs (length modes) (IsFirstOf m (sets_of modes) set) f
+pub too_long_next : (m : ℕ) (modes : List Mode) → AllByRecursion (IsMode m) modes → (set : SetContents) → CanJoin m set → (p : PlanContents) →
+    IsPlanOf set p → Fits p.tree.scale set
+    → (before mode : ℕ) → before ≡ all_rows_of modes → mode ≡ length modes → (f : ModeFault) → RefusesAs mode (IsTooLongAfter before p) f →
+    RefusesAs (length modes) (IsFirstOf m (sets_of modes) set) f
 too_long_next m modes all set can p plan fits before mode rows is fault.NoMemory h = tt
 too_long_next m modes all set can p plan fits before mode rows is (fault.Refused j kind.Processors) h = absurd h.1
 too_long_next m modes all set can p plan fits before mode rows is (fault.Refused j (kind.Offset task)) h = absurd h.1

@@ -1,5 +1,6 @@
 -- What one mode does to the gates and to the jobs.
-use Rattle.std.proofs.Common.{◌≡◌, ℕ, zero, suc, ◌-◌, ◌<◌, ◌≤◌, nat_lt, if◌then◌else◌, true, false, inl, inr, List, [], ◌∷◌, Option, Some, None, Result, Ok, Err, OnOk, IsOk, length, take, option_map}
+use Rattle.std.proofs.Common.{◌≡◌, ℕ, zero, suc, ◌-◌, ◌<◌, ◌≤◌, nat_lt, if◌then◌else◌, true, false, inl, inr, List, [], ◌∷◌, Option, Some, None}
+use Rattle.std.proofs.Common.{Result, Ok, Err, OnOk, IsOk, length, take, option_map}
 use Rattle.std.proofs.Common.{refl, sym, ap, ◌∙◌, subst, arith, rules, lt-ltb, eq-eqb}
 use Rattle.std.specs.Prelude.{slice_get}
 use Rattle.sched_base.specs.declared.sets.Task.{Task}
@@ -62,7 +63,8 @@ record BeganAs {J : Type 0} (tells : JobTells J) (tasks : List Task) (i : ℕ) (
   within : i < length tasks → tells.used now ≡ 0
   past : length tasks ≤ i → tells.used now ≡ tells.used before
 
-began : {G J : Type 0} (tells : JobTells J) (tasks : List Task) (old new : CrewHeld G J) → HasBegun tells tasks old new → (i : ℕ) (job : J) → JobAt old.places i job
+began : {G J : Type 0} (tells : JobTells J) (tasks : List Task) (old new : CrewHeld G J) → HasBegun tells tasks old new → (i : ℕ) (job : J) →
+    JobAt old.places i job
     → (now : J) × JobAt new.places i now × BeganAs tells tasks i job now
 began tells tasks old new begins i job at =
     let shown = seen_at tells old.places i job at in
@@ -95,7 +97,8 @@ began tells tasks old new begins i job at =
     ]
 
 -- jobs of their own that began anew are fresh
-pub fresh_begun : {G J : Type 0} (tells : JobTells J) (tasks : List Task) (old new : CrewHeld G J) → HasBegun tells tasks old new → HaveOwnJobs tells.id (length tasks) old.places
+pub fresh_begun : {G J : Type 0} (tells : JobTells J) (tasks : List Task) (old new : CrewHeld G J) → HasBegun tells tasks old new →
+    HaveOwnJobs tells.id (length tasks) old.places
     → AreFresh tells.id tells.used (length tasks) new.places
 fresh_begun tells tasks old new begins own t within =
     let (job, at, is) = own t within in
@@ -104,7 +107,8 @@ fresh_begun tells tasks old new begins own t within =
 
 -- the same, by what each job tells
 pub fresh_at : {J : Type 0} (id used faults : J → ℕ) (made : J → Option (ℕ × List ℕ)) (tasks : List Task) (old new : List (Option J))
-    → jobs_of id used faults made new ≡ loaded 1 [] tasks (jobs_of id used faults made old) → HaveOwnJobs id (length tasks) old → AreFresh id used (length tasks) new
+    → jobs_of id used faults made new ≡ loaded 1 [] tasks (jobs_of id used faults made old) → HaveOwnJobs id (length tasks) old →
+    AreFresh id used (length tasks) new
 fresh_at {J} id used faults made tasks old new is own =
     let tells : JobTells J = record { id = id; used = used; faults = faults; made = made } in
     fresh_begun {G = ℕ} tells tasks (record { kits = []; places = old }) (record { kits = []; places = new }) (record { gates = refl; jobs = is }) own
@@ -188,7 +192,8 @@ module _ {G J : Type 0} (gate : GateTells G) (job : JobTells J) where
   }
 
   -- whatever a mode answers, all are back
-  pub back_mode : (p : PlanContents) (answer : Result Executed ExecFault) (old new : CrewHeld G J) → RanMode gate job p answer old new → AreBack gate job old new
+  pub back_mode : (p : PlanContents) (answer : Result Executed ExecFault) (old new : CrewHeld G J) → RanMode gate job p answer old new →
+      AreBack gate job old new
   back_mode p answer old new run =
       back_on old run.begun new (back_begun p.set.tasks old run.begun run.begins) (back_outcome p run.window run.begun new answer run.outcome)
 
@@ -197,7 +202,8 @@ module _ {G J : Type 0} (gate : GateTells G) (job : JobTells J) where
   module _ (p : PlanContents) (h : IsPlan p) (e : Executed) (old new : CrewHeld G J) (run : RanMode gate job p (Ok e) old new) where
     pub mode_gates : GatesGrew gate.ran p old.kits new.kits
     mode_gates = subst (λ (kits : List (Kit G)). GatesGrew gate.ran p kits new.kits) run.begins.gates
-        (gates_grew gate.ran gate.faults job.id job.used job.made job.faults p run.window h run.begun.kits new.kits run.begun.places new.places (Ok e) run.outcome)
+        (gates_grew gate.ran gate.faults job.id job.used job.made job.faults p run.window h run.begun.kits new.kits run.begun.places new.places (Ok e)
+        run.outcome)
 
     pub mode_jobs : (i : ℕ) (j : J) → JobAt old.places i j → (now : J) × JobAt new.places i now × (job.id now ≡ job.id j)
         × (job.used now ≡ (if nat_lt i (length p.set.tasks) then ticks_in i (all_rows (plan_rows p)) else job.used j))
@@ -229,7 +235,8 @@ module _ {G J : Type 0} (gate : GateTells G) (job : JobTells J) where
   -- ---- a mode that may have stopped
 
   first_ran : (p : PlanContents) (window : ℕ) (a b : CrewHeld G J) (lanes : List LaneContents)
-      → Ran gate.ran gate.faults job.id job.used job.made job.faults p window a.kits b.kits a.places b.places lanes → (q : ℕ) (g : G) → q < p.tree.processors → KitAt a.kits q g
+      → Ran gate.ran gate.faults job.id job.used job.made job.faults p window a.kits b.kits a.places b.places lanes → (q : ℕ) (g : G) →
+      q < p.tree.processors → KitAt a.kits q g
       → (now : G) × KitAt b.kits q now × ((k : ℕ) × (gate.ran now ≡ grown (gate.ran g) (take k (lane_of (plan_rows p) q))))
   first_ran p window a b lanes r q g within at =
       let (now, there, gr) = r.gates q g within at in
@@ -239,7 +246,8 @@ module _ {G J : Type 0} (gate : GateTells G) (job : JobTells J) where
       (now, there, (first.0, gr.list ∙ ap (grown (gate.ran g)) first.1))
 
   first_outcome : (p : PlanContents) (window : ℕ) (a b : CrewHeld G J) (answer : Result Executed ExecFault)
-      → Outcome gate.ran gate.faults job.id job.used job.made job.faults p window a.kits b.kits a.places b.places answer → (q : ℕ) (g : G) → q < p.tree.processors → KitAt a.kits q g
+      → Outcome gate.ran gate.faults job.id job.used job.made job.faults p window a.kits b.kits a.places b.places answer → (q : ℕ) (g : G) →
+      q < p.tree.processors → KitAt a.kits q g
       → (now : G) × KitAt b.kits q now × ((k : ℕ) × (gate.ran now ≡ grown (gate.ran g) (take k (lane_of (plan_rows p) q))))
   first_outcome p window a b (Ok e) o q g within at = first_ran p window a b o.0 o.1 q g within at
   first_outcome p window a b (Err (exec.Gate x r n)) o q g within at = first_ran p window a b o.0 o.1 q g within at
@@ -264,7 +272,8 @@ module _ {G J : Type 0} (gate : GateTells G) (job : JobTells J) where
       let lane = failed.0 in
       let inside : q < p.tree.processors = omega (arith, width, lane) in
       let (found, here, gr) = ran.gates q g inside (ap (λ (kits : List (Kit G)). slice_get kits q) run.begins.gates ∙ at) in
-      let risen : HasRisen (gate.faults g) (gate.faults found) = subst (λ (c : Option Cause). CountsGate c (gate.faults g) (gate.faults found)) failed.1 gr.count in
+      let risen : HasRisen (gate.faults g) (gate.faults found) = subst (λ (c : Option Cause). CountsGate c (gate.faults g) (gate.faults found)) failed.1
+      gr.count in
       subst (λ (x : G). HasRisen (gate.faults g) (gate.faults x)) (same_gate new.kits q found now here there) risen
 
   -- the job that is named failed
@@ -281,7 +290,8 @@ module _ {G J : Type 0} (gate : GateTells G) (job : JobTells J) where
       let inside : q < p.tree.processors = omega (arith, width, below) in
       let (g, kit) = filled q inside in
       let (found, here, gr) = ran.gates q g inside (ap (λ (kits : List (Kit G)). slice_get kits q) run.begins.gates ∙ kit) in
-      let next : FailsNext (plan_rows p) lane.seat (Some (cause.Job r faults)) = subst (λ (c : Option Cause). FailsNext (plan_rows p) lane.seat c) failed.cause gr.next in
+      let next : FailsNext (plan_rows p) lane.seat (Some (cause.Job r faults)) = subst (λ (c : Option Cause). FailsNext (plan_rows p) lane.seat c)
+      failed.cause gr.next in
       let within : t < length p.set.tasks = names_task p h lane.seat.lane lane.seat.posted t r next (of_its_task t r failed.of_task) in
       let (b, began_at, kept) = began job p.set.tasks old run.begun run.begins t j at in
       let (found_job, job_at, jr) = ran.jobs t b within began_at in

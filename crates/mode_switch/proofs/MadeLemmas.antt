@@ -11,14 +11,17 @@ pub length_more : {X : Type 0} (n : ℕ) (xs ys : List X) (x : X) → length xs 
 length_more n xs ys x long is = ap length is ∙ (let l = length-append xs (x ∷ []) in omega (arith, l, long))
 
 -- one gate more
-pub filled_more : (kits kits' : List (Kit GateHeld)) (gate : GateHeld) → AreFilled (length kits) kits → kits' ≡ kits ++ record { gate = Some gate } ∷ [] → AreFilled (length kits') kits'
+pub filled_more : (kits kits' : List (Kit GateHeld)) (gate : GateHeld) → AreFilled (length kits) kits → kits' ≡ kits ++ record { gate = Some gate } ∷ [] →
+    AreFilled (length kits') kits'
 filled_more kits kits' gate filled is =
-    let grown = each_push (λ q o. (g : GateHeld) × (o ≡ Some (record { gate = Some g }))) kits (length kits) (record { gate = Some gate }) refl (gate, refl) filled in
+    let grown = each_push (λ q o. (g : GateHeld) × (o ≡ Some (record { gate = Some g }))) kits (length kits) (record { gate = Some gate }) refl (gate, refl)
+    filled in
     subst (λ n. AreFilled n kits') (sym (length_more (length kits) kits kits' (record { gate = Some gate }) refl is))
     (subst (λ xs. AreFilled (length kits + 1) xs) (sym is) grown)
 
 -- one job more, which has the next number
-pub own_more : {J : Type 0} (id : J → ℕ) (n : ℕ) (places places' : List (Option J)) (job : J) → length places ≡ n → HaveOwnJobs id n places → places' ≡ places ++ Some job ∷ [] → id job ≡ n
+pub own_more : {J : Type 0} (id : J → ℕ) (n : ℕ) (places places' : List (Option J)) (job : J) → length places ≡ n → HaveOwnJobs id n places →
+    places' ≡ places ++ Some job ∷ [] → id job ≡ n
     → HaveOwnJobs id (n + 1) places'
 own_more {J} id n places places' job long before is own =
     subst (λ xs. HaveOwnJobs id (n + 1) xs) (sym is)

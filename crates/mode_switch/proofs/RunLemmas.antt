@@ -1,5 +1,6 @@
 -- What modes do to the gates and to the jobs, one after the other.
-use Rattle.std.proofs.Common.{◌≡◌, ℕ, zero, suc, ◌+◌, ◌*◌, ◌≤◌, inl, inr, List, [], ◌∷◌, ◌++◌, Option, Some, None, Result, Ok, Err, IfOk, IfErr, length, take, option_map}
+use Rattle.std.proofs.Common.{◌≡◌, ℕ, zero, suc, ◌+◌, ◌*◌, ◌≤◌, inl, inr, List, [], ◌∷◌, ◌++◌, Option, Some, None, Result, Ok, Err, IfOk, IfErr}
+use Rattle.std.proofs.Common.{length, take, option_map}
 use Rattle.std.proofs.Common.{refl, sym, ap, ◌∙◌, subst, arith, append_assoc, take_all, add-one}
 use Rattle.std.specs.Prelude.{slice_get}
 use Rattle.std.specs.List.{AllByRecursion, AllZip}
@@ -81,7 +82,8 @@ wide_as m mode is = is.lawful.tree.processors ∙ is.can_join.same_processors
 
 module _ {G J : Type 0} (gate : GateTells G) (job : JobTells J) where
   -- one mode more
-  pub ran_next : (modes : List Mode) (runs : List Executed) (m : Mode) (e : Executed) (old between new : CrewHeld G J) → RanModes gate job modes runs old between
+  pub ran_next : (modes : List Mode) (runs : List Executed) (m : Mode) (e : Executed) (old between new : CrewHeld G J) → RanModes gate job modes runs old
+      between
       → RanMode gate job m.plan (Ok e) between new → RanModes gate job (modes ++ m ∷ []) (runs ++ e ∷ []) old new
   ran_next [] [] m e old between new ran run = (new, subst (λ (r : CrewHeld G J). RanMode gate job m.plan (Ok e) r new) ran run, refl)
   ran_next [] (x ∷ runs) m e old between new ran run = absurd ran
@@ -102,7 +104,8 @@ module _ {G J : Type 0} (gate : GateTells G) (job : JobTells J) where
   modes_back (m ∷ modes) (e ∷ runs) old new ran =
       back_on gate job old ran.0 new (back_mode gate job m.plan (Ok e) old ran.0 ran.1) (modes_back modes runs ran.0 new ran.2)
 
-  pub grew_through : (m : ℕ) (modes : List Mode) → AllByRecursion (IsMode m) modes → (runs : List Executed) (old new : CrewHeld G J) → RanModes gate job modes runs old new
+  pub grew_through : (m : ℕ) (modes : List Mode) → AllByRecursion (IsMode m) modes → (runs : List Executed) (old new : CrewHeld G J) →
+      RanModes gate job modes runs old new
       → GatesGrewThrough gate.ran m modes old.kits new.kits
   grew_through m [] all [] old new ran q g within at = (g, ap (λ (r : CrewHeld G J). slice_get r.kits q) ran ∙ at, sym (grown-nil (gate.ran g)))
   grew_through m [] all (e ∷ runs) old new ran q g within at = absurd ran
@@ -122,7 +125,8 @@ module _ {G J : Type 0} (gate : GateTells G) (job : JobTells J) where
   runs_whole (m ∷ modes) [] old new ran = absurd ran
   runs_whole (m ∷ modes) (e ∷ runs) old new ran = (mode_run gate job m e old ran.0 ran.1, runs_whole modes runs ran.0 new ran.2)
 
-  pub jobs_last : (m : ℕ) (modes : List Mode) → AllByRecursion (IsMode m) modes → (runs : List Executed) (old new : CrewHeld G J) → RanModes gate job modes runs old new
+  pub jobs_last : (m : ℕ) (modes : List Mode) → AllByRecursion (IsMode m) modes → (runs : List Executed) (old new : CrewHeld G J) → RanModes gate job modes
+      runs old new
       → JobsUsedLast job modes old.places new.places
   jobs_last m [] all [] old new ran i j at = (j, ap (λ (r : CrewHeld G J). slice_get r.places i) ran ∙ at, refl, refl)
   jobs_last m [] all (e ∷ runs) old new ran i j at = absurd ran
@@ -134,7 +138,8 @@ module _ {G J : Type 0} (gate : GateTells G) (job : JobTells J) where
 
   -- ---- whatever is answered
 
-  stopped_first : (m : ℕ) (modes : List Mode) → AllByRecursion (IsMode m) modes → (j : ℕ) (why : ExecFault) (old new : CrewHeld G J) → StopsIn gate job modes j why old new
+  stopped_first : (m : ℕ) (modes : List Mode) → AllByRecursion (IsMode m) modes → (j : ℕ) (why : ExecFault) (old new : CrewHeld G J) →
+      StopsIn gate job modes j why old new
       → GatesGrewFirst gate.ran m modes old.kits new.kits
   stopped_first m modes all j why old new stops q g within at =
       let mode = stops.mode in
@@ -145,7 +150,11 @@ module _ {G J : Type 0} (gate : GateTells G) (job : JobTells J) where
       let (n, front) = first_rows_of modes j mode q k stops.at in (
         now,
         there,
-        (n, first ∙ ap (λ o. grown o (take k lane)) grew ∙ grown-grown (gate.ran g) (rows_through (take j modes) q) (take k lane) ∙ ap (grown (gate.ran g)) front),
+        (
+          n,
+          first ∙ ap (λ o. grown o (take k lane)) grew ∙ grown-grown (gate.ran g) (rows_through (take j modes) q) (take k lane) ∙ ap (grown (gate.ran g))
+              front,
+        ),
       )
 
   -- each gate ran first rows of all
@@ -167,7 +176,8 @@ module _ {G J : Type 0} (gate : GateTells G) (job : JobTells J) where
       (back_mode gate job stops.mode.plan (Err why) stops.between new stops.stopped)
 
   -- all are back
-  pub are_back : (modes : List Mode) (old new : CrewHeld G J) (answer : Result (List Executed) ModesFault) → ModesOutcome gate job modes old new answer → AreBack gate job old new
+  pub are_back : (modes : List Mode) (old new : CrewHeld G J) (answer : Result (List Executed) ModesFault) → ModesOutcome gate job modes old new answer →
+      AreBack gate job old new
   are_back modes old new (Ok runs) o = modes_back modes runs old new o
   are_back modes old new (Err (fault.Gate j x r)) o = stopped_back modes j (exec.Gate x r o.0) old new o.1
   are_back modes old new (Err (fault.Job j t x r)) o = stopped_back modes j (exec.Job t x r o.0) old new o.1
@@ -193,7 +203,8 @@ module _ {G J : Type 0} (gate : GateTells G) (job : JobTells J) where
   names_risen m modes all old new filled (fault.Gate j q r) (n, stops) = λ g now at there.
       let before = modes_back (take j modes) stops.runs old stops.between stops.whole in
       let (b, here, later) = before.gates q g at in
-      risen_later (gate.faults g) (gate.faults b) (gate.faults now) later (gate_risen gate job stops.mode.plan q r n stops.between new stops.stopped b now here there)
+      risen_later (gate.faults g) (gate.faults b) (gate.faults now) later (gate_risen gate job stops.mode.plan q r n stops.between new stops.stopped b now
+      here there)
   names_risen m modes all old new filled (fault.Job j t q r) (n, stops) = λ k now at there.
       let before = modes_back (take j modes) stops.runs old stops.between stops.whole in
       let (b, here, own, later) = before.jobs t k at in
@@ -206,7 +217,8 @@ module _ {G J : Type 0} (gate : GateTells G) (job : JobTells J) where
 
   -- a mode that stopped behind whole modes
   pub stops_at : (modes : List Mode) (j : ℕ) (m : Mode) (runs : List Executed) (why : ExecFault) (old between new : CrewHeld G J) → slice_get modes j ≡ Some m
-      → RanModes gate job (take j modes) runs old between → RanMode gate job m.plan (Err why) between new → ModesOutcome gate job modes old new (Err (fault_in j why))
+      → RanModes gate job (take j modes) runs old between → RanMode gate job m.plan (Err why) between new → ModesOutcome gate job modes old new
+      (Err (fault_in j why))
   stops_at modes j m runs (exec.Gate q r n) old between new at ran run =
       (n, record { mode = m; at = at; runs = runs; between = between; whole = ran; stopped = run })
   stops_at modes j m runs (exec.Job t q r n) old between new at ran run =
@@ -280,8 +292,10 @@ enough_jobs id places m (x ∷ modes) all own = (
 
 -- ---- one step of the run
 
-module _ {G J : Type 0} (gate : GateTells G) (job : JobTells J) (m : ModesContents) (j : ℕ) (p : PlanContents) (n : ℕ) (next : IsNext m j p n) (runs : List Executed)
-    (old between new : CrewHeld G J) (ran : RanModes gate job (take j m.modes) runs old between) (answer : Result Executed ExecFault) (run : RanMode gate job p answer between new) where
+module _ {G J : Type 0} (gate : GateTells G) (job : JobTells J) (m : ModesContents) (j : ℕ) (p : PlanContents) (n : ℕ) (next : IsNext m j p n)
+    (runs : List Executed)
+    (old between new : CrewHeld G J) (ran : RanModes gate job (take j m.modes) runs old between) (answer : Result Executed ExecFault)
+    (run : RanMode gate job p answer between new) where
   of_mode : RanMode gate job next.mode.plan answer between new
   of_mode = subst (λ q. RanMode gate job q answer between new) (sym next.plan) run
 
@@ -291,7 +305,8 @@ module _ {G J : Type 0} (gate : GateTells G) (job : JobTells J) (m : ModesConten
       let modes : take (j + 1) m.modes ≡ take j m.modes ++ next.mode ∷ [] = ap (λ k. take k m.modes) (add-one j) ∙ take_one_more m.modes j next.mode next.at in
       let whole = subst (λ a. RanMode gate job next.mode.plan a between new) ok of_mode in
       subst (λ xs. RanModes gate job xs runs' old new) (sym modes)
-      (subst (λ rs. RanModes gate job (take j m.modes ++ next.mode ∷ []) rs old new) (sym more) (ran_next gate job (take j m.modes) runs next.mode e old between new ran whole))
+      (subst (λ rs. RanModes gate job (take j m.modes ++ next.mode ∷ []) rs old new) (sym more) (ran_next gate job (take j m.modes) runs next.mode e old
+      between new ran whole))
 
   -- the mode stopped
   pub stopped_in : (why : ExecFault) → answer ≡ Err why → (f : ModesFault) → f ≡ fault_in j why → ModesOutcome gate job m.modes old new (Err f)
@@ -305,14 +320,16 @@ pub ran_to_end : {G J : Type 0} (gate : GateTells G) (job : JobTells J) (modes :
 ran_to_end gate job modes j runs old new past ran = subst (λ xs. RanModes gate job xs runs old new) (take_all j modes past) ran
 
 -- all modes were run whole
-pub record RunThrough {G J : Type 0} (gate : GateTells G) (job : JobTells J) (m : ℕ) (modes : List Mode) (runs : List Executed) (old new : CrewHeld G J) : Type 0 where
+pub record RunThrough {G J : Type 0} (gate : GateTells G) (job : JobTells J) (m : ℕ) (modes : List Mode) (runs : List Executed)
+    (old new : CrewHeld G J) : Type 0 where
   pub gates : GatesGrewThrough gate.ran m modes old.kits new.kits
   pub whole : AllZip IsRunOf modes runs
   pub jobs : JobsUsedLast job modes old.places new.places
   pub first : GatesGrewFirst gate.ran m modes old.kits new.kits
   pub back : AreBack gate job old new
 
-pub run_through : {G J : Type 0} (gate : GateTells G) (job : JobTells J) (m : ℕ) (modes : List Mode) → AllByRecursion (IsMode m) modes → (j : ℕ) (runs : List Executed) (old new : CrewHeld G J)
+pub run_through : {G J : Type 0} (gate : GateTells G) (job : JobTells J) (m : ℕ) (modes : List Mode) → AllByRecursion (IsMode m) modes →
+    (j : ℕ) (runs : List Executed) (old new : CrewHeld G J)
     → length modes ≤ j → RanModes gate job (take j modes) runs old new → RunThrough gate job m modes runs old new
 run_through gate job m modes all j runs old new past some =
     let ran = ran_to_end gate job modes j runs old new past some in
@@ -330,7 +347,8 @@ pub ran_none : {G J : Type 0} (gate : GateTells G) (job : JobTells J) (modes : L
 ran_none gate job modes runs start none = subst (λ rs. RanModes gate job [] rs start start) (sym none) refl
 
 -- where memory was refused before the first mode all is as it was
-pub refused_outcome : {G J : Type 0} (gate : GateTells G) (job : JobTells J) (modes : List Mode) (old : CrewHeld G J) (answer : Result (List Executed) ModesFault) →
+pub refused_outcome : {G J : Type 0} (gate : GateTells G) (job : JobTells J) (modes : List Mode) (old : CrewHeld G J) (answer : Result (List Executed)
+    ModesFault) →
     IsErrAnd answer (λ e. e ≡ fault.NoMemory) → ModesOutcome gate job modes old old answer
 refused_outcome gate job modes old (Ok runs) refused = absurd refused
 refused_outcome gate job modes old (Err (fault.Gate j q r)) refused = absurd (let e = refused in cc)

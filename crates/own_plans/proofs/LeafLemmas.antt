@@ -15,7 +15,8 @@ module _ (whole own : Tree) (h : IsTree own) (p q : ℕ) (is : IsPack own q) (k 
       omega (arith, here, there, e, low)
 
   -- one leaf more
-  pub one_more : (leaves : List Leaf) (shown : Leaf) → length leaves ≡ length own.nodes → ((j : ℕ) → j < k → get_or leaves (member own q j) Empty ≡ leaf whole (member whole p j)) → shown ≡ leaf whole (member whole p k) →
+  pub one_more : (leaves : List Leaf) (shown : Leaf) → length leaves ≡ length own.nodes → ((j : ℕ) → j < k → get_or leaves (member own q j) Empty ≡ leaf
+      whole (member whole p j)) → shown ≡ leaf whole (member whole p k) →
       (j : ℕ) → j < k + 1 → get_or (set leaves x shown) (member own q j) Empty ≡ leaf whole (member whole p j)
   one_more leaves shown long before now j b = elim (cases_lt j k) [
     | inl low ↦ get_or-set_other leaves x (member own q j) shown Empty (other_node j low) ∙ before j low

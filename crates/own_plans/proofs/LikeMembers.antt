@@ -28,9 +28,11 @@ member_node t u same p k x h is l at =
 
 -- nodes that are read as members k of both, and are alike
 pub alike_at : (whole own : PlanContents) (p q factor k : ℕ) (s t : Tree) (x y : ℕ) → s ≡ whole.tree → t ≡ own.tree → x ≡ member s p k → y ≡ member t q k →
-    rate whole.tree x ≡ factor * rate own.tree y → AreAlike whole.set.tasks own.set.tasks (leaf whole.tree x) (leaf own.tree y) → AreAlikeAt whole own p q factor k
+    rate whole.tree x ≡ factor * rate own.tree y → AreAlike whole.set.tasks own.set.tasks (leaf whole.tree x) (leaf own.tree y) → AreAlikeAt whole own p q
+    factor k
 alike_at whole own p q factor k s t x y ss st sx sy rates leaves =
     let xs : x ≡ member whole.tree p k = sx ∙ ap (λ (u : Tree). member u p k) ss in
     let ys : y ≡ member own.tree q k = sy ∙ ap (λ (u : Tree). member u q k) st in
-    let P : ℕ → ℕ → Type 0 = λ n m. (rate whole.tree n ≡ factor * rate own.tree m) × AreAlike whole.set.tasks own.set.tasks (leaf whole.tree n) (leaf own.tree m) in
+    let P : ℕ → ℕ → Type 0 = λ n m. (rate whole.tree n ≡ factor * rate own.tree m) × AreAlike whole.set.tasks own.set.tasks (leaf whole.tree n)
+    (leaf own.tree m) in
     subst (λ n. P n (member own.tree q k)) xs (subst (P x) ys (rates, leaves))

@@ -1,5 +1,6 @@
 -- A part of a plan within the whole: its rounds, and what the whole shows of its packs in them.
-use Rattle.std.proofs.Common.{◌≡◌, ℕ, zero, suc, ◌+◌, ◌*◌, ◌%◌, ◌/◌, ◌-◌, ◌<◌, ◌≤◌, ◌^◌, ◌∙◌, ◌∷◌, [], inl, inr, Bool, true, false, List, Option, None, Some, length, get_or, slice_get, refl, sym, ap, subst, arith, div-add-mod', mul-le-mul_right, le_of_lt}
+use Rattle.std.proofs.Common.{◌≡◌, ℕ, zero, suc, ◌+◌, ◌*◌, ◌%◌, ◌/◌, ◌-◌, ◌<◌, ◌≤◌, ◌^◌, ◌∙◌, ◌∷◌, [], inl, inr, Bool, true, false, List, Option}
+use Rattle.std.proofs.Common.{None, Some, length, get_or, slice_get, refl, sym, ap, subst, arith, div-add-mod', mul-le-mul_right, le_of_lt}
 use Rattle.std.proofs.Math.Nat.{lt_of_mul-lt-mul_right, mul-div_cancel, mul-mod_left}
 use Rattle.std.proofs.lemmas.Bool.{both_ways, cases_Bool, cases_eq, cases_lt}
 use Rattle.std.proofs.lemmas.Nat.{div_below, le-div}
@@ -38,7 +39,8 @@ use Rattle.part_rounds.specs.PartRounds.{IsPartRound}
 -- ---- within a round the same members run
 
 -- a node runs at all ticks of a round, if it does at the first
-same_until : (p : PlanContents) → IsPlan p → (first last x k : ℕ) → IsRoundUpTo p first last → x < length p.tree.nodes → first + k < last → runs_at p x (first + k) ≡ runs_at p x first
+same_until : (p : PlanContents) → IsPlan p → (first last x k : ℕ) → IsRoundUpTo p first last → x < length p.tree.nodes → first + k < last →
+    runs_at p x (first + k) ≡ runs_at p x first
 same_until p h first last x zero r l below = ap (runs_at p x) (let e : first + 0 ≡ first = omega arith in e)
 same_until p h first last x (suc k) r l below =
     let most : p.set.horizon * p.tree.scale ≤ 2 ^ 32 * p.tree.scale = mul-le-mul_right p.tree.scale (le_of_lt h.lawful.horizon_fits) in
@@ -50,7 +52,8 @@ same_until p h first last x (suc k) r l below =
     ∙ same_until p h first last x k r l (omega (arith, below))
 
 -- so at each tick of the round
-same_within : (p : PlanContents) → IsPlan p → (first last x n : ℕ) → IsRoundUpTo p first last → x < length p.tree.nodes → first ≤ n → n < last → runs_at p x n ≡ runs_at p x first
+same_within : (p : PlanContents) → IsPlan p → (first last x n : ℕ) → IsRoundUpTo p first last → x < length p.tree.nodes → first ≤ n → n < last →
+    runs_at p x n ≡ runs_at p x first
 same_within p h first last x n r l low high =
     let e : first + (n - first) ≡ n = omega (arith, low) in
     subst (λ (m : ℕ). runs_at p x m ≡ runs_at p x first) e (same_until p h first last x (n - first) r l (omega (arith, e, high)))
@@ -95,7 +98,8 @@ held_is onto i false e = elim (cases_Bool (is_held onto i)) [
   | inr no' ↦ no'
 ]
 
-held_pack : (p : PlanContents) → IsPlan p → (n i : ℕ) → i < packs_of p → is_held (onto_at (set_boundary p.set.tasks) p.tree n) i ≡ runs_at p (first_pack p.tree i) n
+held_pack : (p : PlanContents) → IsPlan p → (n i : ℕ) → i < packs_of p → is_held (onto_at (set_boundary p.set.tasks) p.tree n) i ≡ runs_at p
+    (first_pack p.tree i) n
 held_pack p h n i l =
     held_is (onto_at (set_boundary p.set.tasks) p.tree n) i _ (held_onto (set_boundary p.set.tasks) p.tree h.tree.tree (plan_leaves p h) n i)
     ∙ running_is (set_boundary p.set.tasks) p.tree n i l
@@ -149,7 +153,8 @@ module _ (whole : PlanContents) (w : IsPlan whole) (part : PartPlan) (o : IsPlan
   same_stop =
       let h = is.part.horizon in
       let s = is.part.scale in
-      let e : whole.set.horizon * whole.tree.scale ≡ part.plan.set.horizon * (part.factor * part.plan.tree.scale) = ap (λ u. u * whole.tree.scale) h ∙ ap (λ v. part.plan.set.horizon * v) s in
+      let e : whole.set.horizon * whole.tree.scale ≡ part.plan.set.horizon * (part.factor * part.plan.tree.scale) = ap (λ u. u * whole.tree.scale) h
+      ∙ ap (λ v. part.plan.set.horizon * v) s in
       omega (arith, e)
 
   -- an event of the part's plan is one of the whole plan
@@ -174,7 +179,8 @@ module _ (whole : PlanContents) (w : IsPlan whole) (part : PartPlan) (o : IsPlan
       omega (arith, e, b, m, f)
 
   -- an event between its ends is none of the part's plan
-  pub quiet_own : (start end n : ℕ) (shows : List (Option Leaf)) → IsPartRound part start end shows → start < n → n < end → n % part.factor ≡ 0 → event_at part.plan (n / part.factor) ≡ false
+  pub quiet_own : (start end n : ℕ) (shows : List (Option Leaf)) → IsPartRound part start end shows → start < n → n < end → n % part.factor ≡ 0 →
+      event_at part.plan (n / part.factor) ≡ false
   quiet_own start end n shows r low high z =
       let d = div-add-mod' n part.factor in
       let b = r.start_is in
@@ -216,8 +222,13 @@ module _ (whole : PlanContents) (w : IsPlan whole) (part : PartPlan) (o : IsPlan
             let (j, lj, run) = member_runs (set_boundary part.plan.set.tasks) part.plan.tree o.tree.tree (plan_leaves part.plan o) p r.first pack (at.on x e) in
             let m = member part.plan.tree p j in
             let stands = o.tree.tree.members_are p j pack lj in
-            let a_leaf : IsLeaf part.plan.tree m = (stands.0.0, leaf_at_level part.plan.tree o.tree.tree m stands.0 (ap (level part.plan.tree) stands.1 ∙ first_low part.plan.tree k l)) in
-            shown_there whole part.plan (onto_of part) part.factor w o is.part n i p j pack (is.packs k l) lj (runs_on start end n m shows r low high stands.0.0 ∙ run)
+            let a_leaf : IsLeaf part.plan.tree m = (
+              stands.0.0,
+              leaf_at_level part.plan.tree o.tree.tree m stands.0 (ap (level part.plan.tree) stands.1
+                  ∙ first_low part.plan.tree k l),
+            ) in
+            shown_there whole part.plan (onto_of part) part.factor w o is.part n i p j pack (is.packs k l) lj (runs_on start end n m shows r low high
+            stands.0.0 ∙ run)
             ∙ sym (is.leaves m a_leaf) ∙ sym (at.leaf x j e lj run));
       }
 
@@ -237,14 +248,16 @@ module _ (whole : PlanContents) (w : IsPlan whole) (part : PartPlan) (o : IsPlan
   -- of level 0
   low_back : (i y : ℕ) → i < packs_of whole → IsPack part.plan.tree y → onto_of part y ≡ first_pack whole.tree i → level part.plan.tree y ≡ 0
   low_back i y l pack onto =
-      sym (level_there whole part.plan (onto_of part) part.factor w o is.part (level part.plan.tree y) y pack refl) ∙ ap (level whole.tree) onto ∙ first_low whole.tree i l
+      sym (level_there whole part.plan (onto_of part) part.factor w o is.part (level part.plan.tree y) y pack refl) ∙ ap (level whole.tree) onto
+      ∙ first_low whole.tree i l
 
   -- with a number
   pub pack_in : (i y : ℕ) → i < packs_of whole → y < length part.plan.tree.nodes → onto_of part y ≡ first_pack whole.tree i →
       (k : ℕ) × (k < packs_of part.plan) × (get_or part.packs.items k 0 ≡ i)
   pack_in i y l ly onto =
       let pack = pack_back i y l ly onto in
-      let (k, lk, at) = found_in (at_level part.plan.tree 0) (length part.plan.tree.nodes) 0 y (omega arith) (omega (arith, ly)) (at_from part.plan.tree 0 y pack (low_back i y l pack onto)) in
+      let (k, lk, at) = found_in (at_level part.plan.tree 0) (length part.plan.tree.nodes) 0 y (omega arith) (omega (arith, ly)) (at_from part.plan.tree 0 y
+      pack (low_back i y l pack onto)) in
       let same : onto_of part (first_pack part.plan.tree k) ≡ first_pack whole.tree i = ap (onto_of part) at ∙ onto in
       (k, lk, first_once whole.tree (get_or part.packs.items k 0) i (is.packs_within k lk) l (is.packs k lk ∙ same))
 
@@ -272,7 +285,8 @@ factor_at None = 1
 factor_at (Some r) = r.part.factor
 
 module _ (whole : PlanContents) (w : IsPlan whole) (parts : List PartRounds) (part like : List ℕ) (covered : IsCovered whole parts part like)
-    (each : (c : ℕ) (r : PartRounds) → slice_get parts c ≡ Some r → IsPartPlanOf whole r.part) (lawful : (c : ℕ) (r : PartRounds) → slice_get parts c ≡ Some r → IsPlan r.part.plan) where
+    (each : (c : ℕ) (r : PartRounds) → slice_get parts c ≡ Some r → IsPartPlanOf whole r.part) (lawful : (c : ℕ) (r : PartRounds) → slice_get parts c ≡ Some
+    r → IsPlan r.part.plan) where
   -- the parts
   abbrev the_parts : Parts
   the_parts = record {
@@ -302,18 +316,22 @@ module _ (whole : PlanContents) (w : IsPlan whole) (parts : List PartRounds) (pa
   own_lawful c l = let s = some_at parts c l in subst (λ (v : Option PartRounds). IsPlan (own_at whole v)) (sym s.1) (lawful c s.0 s.1)
 
   -- a tick that is an event of no part is none of the whole plan
-  pub quiet_all : (n : ℕ) → 0 < n → ((c : ℕ) (r : PartRounds) → slice_get parts c ≡ Some r → n % r.part.factor ≡ 0 → event_at r.part.plan (n / r.part.factor) ≡ false) → event_at whole n ≡ false
+  pub quiet_all : (n : ℕ) → 0 < n → ((c : ℕ) (r : PartRounds) → slice_get parts c ≡ Some r → n % r.part.factor ≡ 0 →
+      event_at r.part.plan (n / r.part.factor) ≡ false) → event_at whole n ≡ false
   quiet_all n later none =
-      event_of_none whole the_parts.own the_parts.onto the_parts.factor the_parts.count w own_lawful are_parts.each (has_like whole the_parts w own_lawful are_parts) n later
+      event_of_none whole the_parts.own the_parts.onto the_parts.factor the_parts.count w own_lawful are_parts.each (has_like whole the_parts w own_lawful
+      are_parts) n later
       (λ c l. let s = some_at parts c l in
       subst (λ (v : Option PartRounds). n % factor_at v ≡ 0 → event_at (own_at whole v) (n / factor_at v) ≡ false) (sym s.1) (none c s.0 s.1))
 
   -- each pack of level 0 stands as one of level 0 in some part
-  pub pack_covered : (i : ℕ) → i < packs_of whole → (c : ℕ) × (r : PartRounds) × (k : ℕ) × (slice_get parts c ≡ Some r) × (k < packs_of r.part.plan) × (get_or r.part.packs.items k 0 ≡ i)
+  pub pack_covered : (i : ℕ) → i < packs_of whole → (c : ℕ) × (r : PartRounds) × (k : ℕ) × (slice_get parts c ≡ Some r) × (k < packs_of r.part.plan)
+      × (get_or r.part.packs.items k 0 ≡ i)
   pack_covered i l =
       let x = first_pack whole.tree i in
       let c = get_or part x 0 in
       let in_tree = (first_is_pack whole.tree w.tree.tree i l).0 in
       let (r, at) = some_at parts c (covered.within x in_tree) in
-      let (k, lk, same) = pack_in whole w r.part (lawful c r at) (each c r at) i (get_or like x 0) l (covered.known x r in_tree at) (covered.likes x r in_tree at) in
+      let (k, lk, same) = pack_in whole w r.part (lawful c r at) (each c r at) i (get_or like x 0) l (covered.known x r in_tree at)
+      (covered.likes x r in_tree at) in
       (c, r, k, at, lk, same)

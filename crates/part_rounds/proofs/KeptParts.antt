@@ -1,5 +1,6 @@
 -- What packs of level 0 show by the leaf of the member that runs; and rounds of a part that are kept.
-use Rattle.std.proofs.Common.{[], ap₂, length-append, mul-le-mul_left, mul-le-mul_right, ◌++◌, ◌^◌, ◌∷◌, Bool, List, None, Option, Some, ap, arith, false, get_or, inl, inr, length, nat_lt, refl, set, subst, sym, true, ℕ, ◌*◌, ◌+◌, ◌<◌, ◌∙◌, ◌≡◌, ◌≤◌}
+use Rattle.std.proofs.Common.{[], ap₂, length-append, mul-le-mul_left, mul-le-mul_right, ◌++◌, ◌^◌, ◌∷◌, Bool, List, None, Option, Some, ap, arith}
+use Rattle.std.proofs.Common.{false, get_or, inl, inr, length, nat_lt, refl, set, subst, sym, true, ℕ, ◌*◌, ◌+◌, ◌<◌, ◌∙◌, ◌≡◌, ◌≤◌}
 use Rattle.std.proofs.Math.ListN.{get_or-append}
 use Rattle.std.proofs.Math.Seq.{get_or-append_seam}
 use Rattle.std.proofs.lemmas.Bool.{both_ways, cases_eq, cases_lt}
@@ -121,7 +122,8 @@ one_leaf tasks t holds idles x y i j Empty a e f = absurd (both_ways false refl 
 
 -- the packs of level 0 are of that level
 level_of_first : (t : Tree) (h : IsTree t) (i : ℕ) → i < length (packs_at t 0) → level t (get_or (packs_at t 0) i 0) ≡ 0
-level_of_first t h i l = let r = first_from (at_level t 0) (length t.nodes) 0 i l in (pack_at t 0 (get_or (packs_at t 0) i 0) (let b = r.0 in omega (arith, b)) r.1).1
+level_of_first t h i l = let r = first_from (at_level t 0) (length t.nodes) 0 i l in (pack_at t 0 (get_or (packs_at t 0) i 0) (let b = r.0 in
+    omega (arith, b)) r.1).1
 
 module _ (part : PartPlan) (h : IsPlan part.plan) (start end k : ℕ) (round : IsRoundUpTo part.plan start end) (in_level : k < packs_of part.plan) where
   -- the processor that holds each pack at the end of the round
@@ -162,7 +164,8 @@ module _ (part : PartPlan) (h : IsPlan part.plan) (start end k : ℕ) (round : I
     runs_here = sym held_is ∙ held_here
 
     -- the processor shows the leaf of the pack
-    shows_here : (none : Row) → leaf_at part.plan start end q none ≡ shown part.plan.set.tasks part.plan.tree.scale start (leaf_on (set_boundary part.plan.set.tasks) part.plan.tree start (Some k))
+    shows_here : (none : Row) → leaf_at part.plan start end q none ≡ shown part.plan.set.tasks part.plan.tree.scale start
+        (leaf_on (set_boundary part.plan.set.tasks) part.plan.tree start (Some k))
     shows_here none =
         leaf_is part.plan start end q none within
         ∙ ap (λ (o : Option ℕ). shown part.plan.set.tasks part.plan.tree.scale start (leaf_on (set_boundary part.plan.set.tasks) part.plan.tree start o))
@@ -186,7 +189,8 @@ module _ (part : PartPlan) (h : IsPlan part.plan) (start end k : ℕ) (round : I
         sym (e none) ∙ shows_here none ∙ ap (shown tasks t.scale start) (same ∙ ap (λ m. leaf t (own_member part k m)) (sym alone)) in
         let some = some_shown tasks t.scale start (leaf t x) real in
         let there : IsLeaf t n = (w, leaf_here tasks t.scale start (kind_at t n) (λ nothing. some (sym shows ∙ nothing))) in
-        one_leaf tasks t h.tree.tasks h.tree.idles n x there here (leaf t x) real (same_leaf tasks t.scale start (leaf t n) (leaf t x) (h.tree.tasks.real n there) real shows) refl
+        one_leaf tasks t h.tree.tasks h.tree.idles n x there here (leaf t x) real (same_leaf tasks t.scale start (leaf t n) (leaf t x)
+        (h.tree.tasks.real n there) real shows) refl
 
     -- there is one
     some_node : ((none : Row) → leaf_at part.plan start end q none ≡ Empty) → ⊥
@@ -221,7 +225,8 @@ module _ (part : PartPlan) (h : IsPlan part.plan) (start end k : ℕ) (round : I
       (q, is ∙ (noted.noted q k at).1, ap (λ (os : List (Option ℕ)). get_or os q None) (sym same) ∙ at, omega (arith, l, long))
 
 -- one more pack is told of
-pub one_more_shown : (part : PartPlan) (n k : ℕ) (shows : List (Option Leaf)) (o : Option Leaf) → k < length shows → ((j : ℕ) → j < k → IsShownAt part n j (get_or shows j None)) → IsShownAt part n k o →
+pub one_more_shown : (part : PartPlan) (n k : ℕ) (shows : List (Option Leaf)) (o : Option Leaf) → k < length shows →
+    ((j : ℕ) → j < k → IsShownAt part n j (get_or shows j None)) → IsShownAt part n k o →
     (j : ℕ) → j < k + 1 → IsShownAt part n j (get_or (set shows k o) j None)
 one_more_shown part n k shows o within before here j l = elim (cases_eq j k) [
   | inl e ↦
@@ -233,7 +238,8 @@ one_more_shown part n k shows o within before here j l = elim (cases_eq j k) [
 -- ---- rounds that are kept
 
 -- the rounds of a part end early enough to be counted in ticks of the whole plan
-pub tick_fits : (whole : PlanContents) → IsPlan whole → (part : PartPlan) → IsPartPlanOf whole part → (tick : ℕ) → tick ≤ stop_of part.plan → tick * part.factor ≤ 2 ^ 126
+pub tick_fits : (whole : PlanContents) → IsPlan whole → (part : PartPlan) → IsPartPlanOf whole part → (tick : ℕ) → tick ≤ stop_of part.plan →
+    tick * part.factor ≤ 2 ^ 126
 tick_fits whole w part is tick l =
     let f = part.factor in
     let scale = is.part.scale in
@@ -247,7 +253,8 @@ tick_fits whole w part is tick l =
     omega (arith, same, most, wide, high)
 
 -- a round has ticks
-pub round_above : (part : PartPlan) → 1 ≤ part.factor → (start end : ℕ) (shows : List (Option Leaf)) → IsPartRound part (start * part.factor) (end * part.factor) shows → start < end
+pub round_above : (part : PartPlan) → 1 ≤ part.factor → (start end : ℕ) (shows : List (Option Leaf)) → IsPartRound part (start * part.factor)
+    (end * part.factor) shows → start < end
 round_above part some start end shows round = elim (cases_lt start end) [
   | inl above ↦ above
   | inr below ↦
@@ -274,7 +281,8 @@ none_kept part kept ends shows =
 pub kept_within : (i k many packs : ℕ) → i < many → k < packs → i * packs + k < many * packs
 kept_within i k many packs l m = let rows : (i + 1) * packs ≤ many * packs = mul-le-mul_right packs (omega (arith, l)) in omega (arith, rows, m)
 
-module _ (part : PartPlan) (kept next : KeptRounds) (start end : ℕ) (shows : List (Option Leaf)) (so_far : AreKeptOf part kept) (here : kept_end kept ≡ start) (round : IsPartRound part start end shows)
+module _ (part : PartPlan) (kept next : KeptRounds) (start end : ℕ) (shows : List (Option Leaf)) (so_far : AreKeptOf part kept)
+    (here : kept_end kept ≡ start) (round : IsPartRound part start end shows)
     (ends_are : next.ends.items ≡ kept.ends.items ++ end ∷ []) (shows_are : next.shows.items ≡ kept.shows.items ++ shows) where
   -- those before are still kept
   round_kept : (i : ℕ) → i < length kept.ends.items → IsKeptRound part next i
@@ -320,12 +328,14 @@ module _ (part : PartPlan) (kept next : KeptRounds) (start end : ℕ) (shows : L
   pub one_more : AreKeptOf part next
   one_more =
       let more : length next.ends.items ≡ length kept.ends.items + 1 = ap (λ (es : List ℕ). length es) ends_are ∙ length-append kept.ends.items (end ∷ []) in
-      let told : length next.shows.items ≡ length kept.shows.items + length shows = ap (λ (xs : List (Option Leaf)). length xs) shows_are ∙ length-append kept.shows.items shows in
+      let told : length next.shows.items ≡ length kept.shows.items + length shows = ap (λ (xs : List (Option Leaf)). length xs) shows_are
+      ∙ length-append kept.shows.items shows in
       record {
         long =
             let was = so_far.long in
             let now = round.long in
-            let count : length next.ends.items * packs_of part.plan ≡ (length kept.ends.items + 1) * packs_of part.plan = ap (λ n. n * packs_of part.plan) more in
+            let count : length next.ends.items * packs_of part.plan ≡ (length kept.ends.items + 1) * packs_of part.plan = ap (λ n. n * packs_of part.plan)
+            more in
             omega (arith, told, was, now, count);
         each = λ i l. elim (cases_lt i (length kept.ends.items)) [
           | inl low ↦ round_kept i low

@@ -32,7 +32,8 @@ module _ (p : PlanContents) (tick : ℕ) (leaves : List (Option Leaf)) (sum : Ro
 
     -- so it shows in the next round what its last row does
     stays : (tick ≡ 0) ⊎ IsShownUpTo p tick leaves sum → (tick ≡ 0 → (q : ℕ) → q < p.tree.processors → IsTold told count q) →
-        ((q start : ℕ) (none : Row) → q < p.tree.processors → (IsTold told count q → ⊥) → IsRoundUpTo p start tick → leaf_at p tick end q none ≡ leaf_at p start tick q none) →
+        ((q start : ℕ) (none : Row) → q < p.tree.processors → (IsTold told count q → ⊥) → IsRoundUpTo p start tick → leaf_at p tick end q none ≡ leaf_at p
+        start tick q none) →
         (q : ℕ) (none : Row) → q < p.tree.processors → IsNone seen (length seen) q → ends_showing (lane_of sum.rows.lanes q) (leaf_at p tick end q none) ≡ true
     stays (inl none) first others q row l away = absurd (not_told q away (first none q l))
     stays (inr gone) first others q row l away =
@@ -40,7 +41,8 @@ module _ (p : PlanContents) (tick : ℕ) (leaves : List (Option Leaf)) (sum : Ro
 
     pub next_shown : (now : List (Option Leaf)) → (tick ≡ 0) ⊎ IsShownUpTo p tick leaves sum → IsAllTold p tick end now →
         (tick ≡ 0 → (q : ℕ) → q < p.tree.processors → IsTold told count q) →
-        ((q start : ℕ) (none : Row) → q < p.tree.processors → (IsTold told count q → ⊥) → IsRoundUpTo p start tick → leaf_at p tick end q none ≡ leaf_at p start tick q none) →
+        ((q start : ℕ) (none : Row) → q < p.tree.processors → (IsTold told count q → ⊥) → IsRoundUpTo p start tick → leaf_at p tick end q none ≡ leaf_at p
+        start tick q none) →
         AreShown sum.rows.lanes seen now (rows_of_round p tick end)
     next_shown now gone all first others = record {
       long = length-round p.set.tasks p.tree tick end ∙ sym all.long;
@@ -49,9 +51,11 @@ module _ (p : PlanContents) (tick : ℕ) (leaves : List (Option Leaf)) (sum : Ro
     }
 
 -- the next round is merged
-pub merging_on : (p : PlanContents) (start : ℕ) (parted : Parted) (leaves : List (Option Leaf)) (sum : RoundSum) → IsPartedOf p parted → IsRoundUpTo p start parted.tick →
+pub merging_on : (p : PlanContents) (start : ℕ) (parted : Parted) (leaves : List (Option Leaf)) (sum : RoundSum) → IsPartedOf p parted →
+    IsRoundUpTo p start parted.tick →
     IsAllTold p start parted.tick leaves → IsSumUpTo p parted.tick sum →
-    ((q : ℕ) (r : Row) → slice_get (rows_of_round p start parted.tick) q ≡ Some r → ends_showing (lane_of sum.rows.lanes q) r.leaf ≡ true) → IsMergingOf p parted leaves sum
+    ((q : ℕ) (r : Row) → slice_get (rows_of_round p start parted.tick) q ≡ Some r → ends_showing (lane_of sum.rows.lanes q) r.leaf ≡ true) →
+    IsMergingOf p parted leaves sum
 merging_on p start parted leaves sum belongs round all is ends = record {
   belongs = belongs;
   sum = is;

@@ -1,5 +1,6 @@
 -- The rounds of a plan, cut at the ends of the rounds of its parts.
-use Rattle.std.proofs.Common.{◌≡◌, ℕ, zero, suc, ◌+◌, ◌*◌, ◌<◌, ◌≤◌, ◌⊎◌, ◌∙◌, ◌∷◌, ◌++◌, [], inl, inr, true, List, length, length-set, map, get_or, get_or-set_other, get_or-set_same, min, set, slice_get, take, drop, Option, None, Some, refl, sym, ap, subst, arith}
+use Rattle.std.proofs.Common.{◌≡◌, ℕ, zero, suc, ◌+◌, ◌*◌, ◌<◌, ◌≤◌, ◌⊎◌, ◌∙◌, ◌∷◌, ◌++◌, [], inl, inr, true, List, length, length-set, map, get_or}
+use Rattle.std.proofs.Common.{get_or-set_other, get_or-set_same, min, set, slice_get, take, drop, Option, None, Some, refl, sym, ap, subst, arith}
 use Rattle.std.specs.List.{AllByRecursion}
 use Rattle.std.proofs.lemmas.Bool.{cases_eq, cases_lt}
 use Rattle.std.proofs.Math.Seq.{take-append_seam}
@@ -112,7 +113,8 @@ pub record AreMoved (whole : PlanContents) (tick n : ℕ) (old new : List PartRo
   pub first : IsLeastEnd whole new n end
 
 -- none has moved yet
-pub none_moved : (whole : PlanContents) (tick : ℕ) (old : List PartRounds) (before : List (Option Leaf)) (end : ℕ) → end ≡ stop_of whole → AreMoved whole tick 0 old old before before end
+pub none_moved : (whole : PlanContents) (tick : ℕ) (old : List PartRounds) (before : List (Option Leaf)) (end : ℕ) → end ≡ stop_of whole →
+    AreMoved whole tick 0 old old before before end
 none_moved whole tick old before end all = record {
   long = refl;
   rest = λ k l. refl;
@@ -124,7 +126,8 @@ none_moved whole tick old before end all = record {
 }
 
 -- one part more
-module _ (whole : PlanContents) (tick n : ℕ) (old new : List PartRounds) (before shows : List (Option Leaf)) (end : ℕ) (moved : AreMoved whole tick n old new before shows end)
+module _ (whole : PlanContents) (tick n : ℕ) (old new : List PartRounds) (before shows : List (Option Leaf)) (end : ℕ) (moved : AreMoved whole tick n old
+    new before shows end)
     (s s' : PartRounds) (in_parts : n < length new) (at : slice_get new n ≡ Some s) (same_part : s'.part ≡ s.part) where
   -- a part that isn't the one that moves
   other_part : (k : ℕ) → (k ≡ n → ⊥) → slice_get (set new n s') k ≡ slice_get new k
@@ -151,7 +154,14 @@ module _ (whole : PlanContents) (tick n : ℕ) (old new : List PartRounds) (befo
           | inl sooner ↦ inr (n, s', omega arith, this_part, omega (arith, sooner))
           | inr not_sooner ↦ (let m : min end s'.end ≡ end = omega (arith, not_sooner) in elim moved.first.is [
             | inl all ↦ inl (m ∙ all)
-            | inr some ↦ inr (some.0, some.1, (let l = some.2 in omega (arith, l)), (other_part some.0 (let l = some.2 in λ e. omega (arith, e, l)) ∙ some.3), m ∙ some.4)
+            | inr some ↦ inr (
+              some.0,
+              some.1,
+              (let l = some.2 in omega (arith, l)),
+              (other_part some.0 (let l = some.2 in λ e. omega (arith, e, l))
+                  ∙ some.3),
+              m ∙ some.4,
+            )
           ])
         ];
       }
@@ -172,7 +182,8 @@ module _ (whole : PlanContents) (tick n : ℕ) (old new : List PartRounds) (befo
     ]);
   }
 
-  pub one_moved : (shows' : List (Option Leaf)) → length shows' ≡ length shows → ((i : ℕ) → (get_or shows' i None ≡ get_or shows i None) ⊎ IsPackOn whole tick i (get_or shows' i None)) →
+  pub one_moved : (shows' : List (Option Leaf)) → length shows' ≡ length shows → ((i : ℕ) → (get_or shows' i None ≡ get_or shows i None) ⊎ IsPackOn whole
+      tick i (get_or shows' i None)) →
       IsPartNow whole tick shows' s' → AreMoved whole tick (n + 1) old (set new n s') before shows' (min end s'.end)
   one_moved shows' long' rest' now = record {
     long = length-set new n s' ∙ moved.long;
@@ -201,13 +212,15 @@ module _ (whole : PlanContents) (tick n : ℕ) (old new : List PartRounds) (befo
 -- ---- the parts of a plan move on
 
 module _ (whole : PlanContents) (w : IsPlan whole) (parted : Parted) (b : IsPartedOf whole parted) (early : parted.tick < stop_of whole)
-    (n : ℕ) (new : List PartRounds) (shows : List (Option Leaf)) (end : ℕ) (moved : AreMoved whole parted.tick n parted.parts.items new parted.shows.items shows end) where
+    (n : ℕ) (new : List PartRounds) (shows : List (Option Leaf)) (end : ℕ) (moved : AreMoved whole parted.tick n parted.parts.items new parted.shows.items
+    shows end) where
   -- a part that hasn't moved is as it was
   pub still : (s : PartRounds) → slice_get new n ≡ Some s → slice_get parted.parts.items n ≡ Some s
   still s at = sym (moved.rest n (omega arith)) ∙ at
 
   -- a part that is due begins its next round
-  pub due_now : (s' : PartRounds) (shows' : List (Option Leaf)) → IsPartRoundsOf whole s' → IsPlan s'.part.plan → IsPartRound s'.part parted.tick s'.end s'.shows.items →
+  pub due_now : (s' : PartRounds) (shows' : List (Option Leaf)) → IsPartRoundsOf whole s' → IsPlan s'.part.plan → IsPartRound s'.part parted.tick s'.end
+      s'.shows.items →
       IsTelling whole parted.tick s'.part.packs.items (packs_of s'.part.plan) shows shows' → IsPartNow whole parted.tick shows' s'
   due_now s' shows' belongs o round t = record {
     belongs = belongs;
@@ -252,7 +265,8 @@ module _ (whole : PlanContents) (w : IsPlan whole) (parted : Parted) (b : IsPart
 -- ---- a round of the whole plan
 
 module _ (whole : PlanContents) (w : IsPlan whole) (parted : Parted) (b : IsPartedOf whole parted) (early : parted.tick < stop_of whole)
-    (n : ℕ) (new : List PartRounds) (shows : List (Option Leaf)) (end : ℕ) (moved : AreMoved whole parted.tick n parted.parts.items new parted.shows.items shows end) (all : n ≡ length parted.parts.items) where
+    (n : ℕ) (new : List PartRounds) (shows : List (Option Leaf)) (end : ℕ) (moved : AreMoved whole parted.tick n parted.parts.items new parted.shows.items
+    shows end) (all : n ≡ length parted.parts.items) where
   now_at : (c : ℕ) (s : PartRounds) → slice_get new c ≡ Some s → IsPartNow whole parted.tick shows s
   now_at c s at = let l = slice_get_within new c s at in let long = moved.long in moved.each c s (omega (arith, l, long, all)) at
 
@@ -310,7 +324,8 @@ module _ (whole : PlanContents) (w : IsPlan whole) (parted : Parted) (b : IsPart
     above = later;
     below = moved.first.within;
     quiet = λ m low high.
-        quiet_all whole w new parted.part.items parted.like.items covered_now (λ c s at. (now_at c s at).belongs.part) (λ c s at. (now_at c s at).plan) m (omega (arith, low))
+        quiet_all whole w new parted.part.items parted.like.items covered_now (λ c s at. (now_at c s at).belongs.part) (λ c s at. (now_at c s at).plan) m
+        (omega (arith, low))
         (λ c s at z.
         let p = now_at c s at in
         let before = p.low in
@@ -324,7 +339,8 @@ module _ (whole : PlanContents) (w : IsPlan whole) (parted : Parted) (b : IsPart
   shown_now = record {
     long = moved.long_shows ∙ b.long;
     each = λ i l. (
-        let (c, s, k, at, lk, e) = pack_covered whole w new parted.part.items parted.like.items covered_now (λ c s at. (now_at c s at).belongs.part) (λ c s at. (now_at c s at).plan) i l in
+        let (c, s, k, at, lk, e) = pack_covered whole w new parted.part.items parted.like.items covered_now (λ c s at. (now_at c s at).belongs.part)
+        (λ c s at. (now_at c s at).plan) i l in
         subst (λ (j : ℕ). IsPackOn whole parted.tick j (get_or shows j None)) e ((now_at c s at).told k lk));
   }
 
@@ -340,7 +356,8 @@ module _ (whole : PlanContents) (w : IsPlan whole) (parted : Parted) (b : IsPart
         record { start = p.start; before = omega (arith, low, up); after = least_at c s at; round = p.round });
     told = λ c s at k l. (
         let p = now_at c s at in
-        pack_once whole parted.tick (get_or s.part.packs.items k 0) (get_or shows (get_or s.part.packs.items k 0) None) (get_or s.shows.items k None) (p.told k l)
+        pack_once whole parted.tick (get_or s.part.packs.items k 0) (get_or shows (get_or s.part.packs.items k 0) None) (get_or s.shows.items k None)
+        (p.told k l)
         (pack_shows whole w s.part p.plan p.belongs.part p.start s.end parted.tick k s.shows.items p.round p.low p.high l));
   }
 
@@ -380,11 +397,13 @@ looked_more whole start end told n before after q shows t at l is = record {
 }
 
 -- where those that aren't told show the same as before, each stands there
-pub all_looked : (whole : PlanContents) (tick end : ℕ) (told : List ℕ) (count : ℕ) (before after : List (Option Leaf)) → AreLooked whole tick end told count before after →
+pub all_looked : (whole : PlanContents) (tick end : ℕ) (told : List ℕ) (count : ℕ) (before after : List (Option Leaf)) → AreLooked whole tick end told count
+    before after →
     length before ≡ whole.tree.processors → IsRoundStart whole tick → tick ≤ stop_of whole →
     ((start : ℕ) → IsRoundUpTo whole start tick → IsAllTold whole start tick before) →
     (tick ≡ 0 → (q : ℕ) → q < whole.tree.processors → IsTold told count q) →
-    ((q start : ℕ) (none : Row) → q < whole.tree.processors → (IsTold told count q → ⊥) → IsRoundUpTo whole start tick → leaf_at whole tick end q none ≡ leaf_at whole start tick q none) →
+    ((q start : ℕ) (none : Row) → q < whole.tree.processors → (IsTold told count q → ⊥) → IsRoundUpTo whole start tick → leaf_at whole tick end q
+    none ≡ leaf_at whole start tick q none) →
     IsAllTold whole tick end after
 all_looked whole tick end told count before after looked many begins within was first others = record {
   long = looked.long ∙ many;
@@ -434,26 +453,34 @@ each_same [] = refl
 each_same (x ∷ xs) = ap (λ ys. x ∷ ys) (each_same xs)
 
 -- and so they are with those of the next
-pub one_part : (whole : PlanContents) (plans : List PartPlan) (plan : PartPlan) (parts : List PartRounds) (next : PartRounds) → AreFirst whole plans parts → length parts ≡ length plans →
+pub one_part : (whole : PlanContents) (plans : List PartPlan) (plan : PartPlan) (parts : List PartRounds) (next : PartRounds) → AreFirst whole plans parts →
+    length parts ≡ length plans →
     IsPartRoundsOf whole next → IsPlan next.part.plan → next.end ≡ 0 → next.part ≡ plan → AreFirst whole (plans ++ plan ∷ []) (parts ++ next ∷ [])
 one_part whole plans plan parts next are long is lawful zero_end own = record {
-  each = λ c r at. elim (slice_get-push parts next r c at) [ inl before ↦ are.each c r before.1 | inr last ↦ subst (λ (x : PartRounds). IsPartRoundsOf whole x) last.1 is ];
-  lawful = λ c r at. elim (slice_get-push parts next r c at) [ inl before ↦ are.lawful c r before.1 | inr last ↦ subst (λ (x : PartRounds). IsPlan x.part.plan) last.1 lawful ];
-  begin = λ c r at. elim (slice_get-push parts next r c at) [ inl before ↦ are.begin c r before.1 | inr last ↦ subst (λ (x : PartRounds). x.end ≡ 0) last.1 zero_end ];
+  each = λ c r at. elim (slice_get-push parts next r c at)
+      [ inl before ↦ are.each c r before.1 | inr last ↦ subst (λ (x : PartRounds). IsPartRoundsOf whole x) last.1 is ];
+  lawful = λ c r at. elim (slice_get-push parts next r c at)
+      [ inl before ↦ are.lawful c r before.1 | inr last ↦ subst (λ (x : PartRounds). IsPlan x.part.plan) last.1 lawful ];
+  begin = λ c r at. elim (slice_get-push parts next r c at)
+      [ inl before ↦ are.begin c r before.1 | inr last ↦ subst (λ (x : PartRounds). x.end ≡ 0) last.1 zero_end ];
   own = λ c r at. elim (slice_get-push parts next r c at) [
     | inl before ↦ slice_get_front plans (plan ∷ []) c r.part (are.own c r before.1)
-    | inr last ↦ ap (slice_get (plans ++ plan ∷ [])) (last.0 ∙ long) ∙ slice_get_last plans plan ∙ ap (λ (x : PartPlan). Some x) (sym own) ∙ ap (λ (x : PartRounds). Some x.part) last.1
+    | inr last ↦ ap (slice_get (plans ++ plan ∷ [])) (last.0 ∙ long) ∙ slice_get_last plans plan ∙ ap (λ (x : PartPlan). Some x) (sym own)
+        ∙ ap (λ (x : PartRounds). Some x.part) last.1
   ];
 }
 
 -- so those of all parts are the rounds of the plan by its parts
-pub first_parted : (whole : PlanContents) (found : PartPlans) → ArePartPlansOf whole found → (parted : Parted) → AllByRecursion (λ t. t.offset ≡ 0) whole.set.tasks → parted.tick ≡ 0 →
-    length parted.parts.items ≡ length found.parts.items → parted.part ≡ found.part → parted.like ≡ found.like → AreFirst whole found.parts.items parted.parts.items →
+pub first_parted : (whole : PlanContents) (found : PartPlans) → ArePartPlansOf whole found → (parted : Parted) → AllByRecursion (λ t. t.offset ≡ 0)
+    whole.set.tasks → parted.tick ≡ 0 →
+    length parted.parts.items ≡ length found.parts.items → parted.part ≡ found.part → parted.like ≡ found.like → AreFirst whole found.parts.items
+    parted.parts.items →
     length parted.shows.items ≡ packs_of whole → IsPlacedUpTo whole 0 parted.placed → IsPartedOf whole parted
 first_parted whole found is parted on_time first many part like are long placed =
     let part_at : (x : ℕ) → get_or parted.part.items x 0 ≡ get_or found.part.items x 0 = (λ x. ap (λ (v : _). get_or v.items x 0) part) in
     let like_at : (x : ℕ) → get_or parted.like.items x 0 ≡ get_or found.like.items x 0 = (λ x. ap (λ (v : _). get_or v.items x 0) like) in
-    let own : (x : ℕ) (s : PartRounds) → slice_get parted.parts.items (get_or parted.part.items x 0) ≡ Some s → slice_get found.parts.items (get_or found.part.items x 0) ≡ Some s.part =
+    let own : (x : ℕ) (s : PartRounds) → slice_get parted.parts.items (get_or parted.part.items x 0) ≡ Some s → slice_get found.parts.items
+    (get_or found.part.items x 0) ≡ Some s.part =
     (λ x s at. ap (slice_get found.parts.items) (sym (part_at x)) ∙ are.own (get_or parted.part.items x 0) s at) in
     record {
       on_time = on_time;

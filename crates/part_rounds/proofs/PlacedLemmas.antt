@@ -1,5 +1,7 @@
 -- Packs of level 0 are placed by what each shows.
-use Rattle.std.proofs.Common.{◌≡◌, ◌≢◌, ℕ, zero, suc, ◌+◌, ◌<◌, ◌≤◌, ◌⊎◌, ◌&&◌, not, inl, inr, Bool, true, false, List, [], ◌∷◌, length, length-append, set, length-set, get_or, get_or-set_same, get_or-set_other, replicate, Option, None, Some, refl, sym, ap, ap₂, subst, ◌∙◌, arith}
+use Rattle.std.proofs.Common.{◌≡◌, ◌≢◌, ℕ, zero, suc, ◌+◌, ◌<◌, ◌≤◌, ◌⊎◌, ◌&&◌, not, inl, inr, Bool, true, false, List, [], ◌∷◌, length}
+use Rattle.std.proofs.Common.{length-append, set, length-set, get_or, get_or-set_same, get_or-set_other, replicate, Option, None, Some, refl, sym, ap}
+use Rattle.std.proofs.Common.{ap₂, subst, ◌∙◌, arith}
 use Rattle.std.proofs.lemmas.Bool.{both_ways, cases_eq}
 use Rattle.std.proofs.lemmas.List.{length-replicate}
 use Rattle.std.specs.List.{AllByRecursion}
@@ -106,7 +108,8 @@ module _ (shows before : List (Option Leaf)) where
       pub noted_more : (c' : ChangeLists) → IsEntryTaken now n (get_or shows n None) c c' → c'.room ≡ c.room → AreNotedOf shows before now' (n + 1) c'
       noted_more c' (inl (same, still)) room = record {
         noted = subst (λ (d : ChangeLists). AreNotedTo before now' (n + 1) d) (sym still)
-            (noted_skip before now' n (n + 1) c (omega arith) (λ k low high. (let e : k ≡ n = omega (arith, low, high) in ap (λ i. get_or now' i None) e ∙ here ∙ same ∙ was ∙ ap (λ i. get_or before i None) (sym e))) still_below);
+            (noted_skip before now' n (n + 1) c (omega arith) (λ k low high. (let e : k ≡ n = omega (arith, low, high) in ap (λ i. get_or now' i None) e
+            ∙ here ∙ same ∙ was ∙ ap (λ i. get_or before i None) (sym e))) still_below);
         each = each_on;
         later = later_on;
         few = (let s = a.few in let e = ap (λ (d : ChangeLists). length d.seen) still in omega (arith, s, e));
@@ -144,7 +147,8 @@ none_at (suc n) zero = refl
 none_at (suc n) (suc k) = none_at n k
 
 -- no pack is placed
-pub placed_first : (p : PlanContents) (r : Placed) → AllByRecursion (λ t. t.offset ≡ 0) p.set.tasks → r.places ≡ places_of p 0 → r.changes.room ≡ packs_of p → r.before.items ≡ no_leaves (packs_of p) → IsPlacedUpTo p 0 r
+pub placed_first : (p : PlanContents) (r : Placed) → AllByRecursion (λ t. t.offset ≡ 0) p.set.tasks → r.places ≡ places_of p 0 → r.changes.room ≡ packs_of p
+    → r.before.items ≡ no_leaves (packs_of p) → IsPlacedUpTo p 0 r
 placed_first p r on_time places room none = record {
   on_time = on_time;
   places = places;
@@ -200,8 +204,10 @@ module _ (p : PlanContents) (start : ℕ) (r : Placed) (b : IsPlacedUpTo p start
   pub last_long : length r.places.last ≡ length (packs_running (set_boundary p.set.tasks) p.tree start)
   last_long = last_packs ∙ sym (length-running (set_boundary p.set.tasks) p.tree start)
 
-module _ (p : PlanContents) (h : IsPlan p) (start : ℕ) (r : Placed) (b : IsPlacedUpTo p start r) (shows : List (Option Leaf)) (are : AreShown p start shows) (now : List (Option Leaf))
-    (is : (k : ℕ) → k < length shows → get_or now k None ≡ get_or shows k None) (changes : ChangeLists) (noted_to : AreNotedTo r.before.items now (length r.before.items) changes) where
+module _ (p : PlanContents) (h : IsPlan p) (start : ℕ) (r : Placed) (b : IsPlacedUpTo p start r) (shows : List (Option Leaf)) (are : AreShown p start shows)
+    (now : List (Option Leaf))
+    (is : (k : ℕ) → k < length shows → get_or now k None ≡ get_or shows k None) (changes : ChangeLists) (noted_to : AreNotedTo r.before.items now
+    (length r.before.items) changes) where
   abbrev rs : List Bool
   rs = packs_running (set_boundary p.set.tasks) p.tree start
 
@@ -219,7 +225,8 @@ module _ (p : PlanContents) (h : IsPlan p) (start : ℕ) (r : Placed) (b : IsPla
       (λ k m. b.held k (let e = b.long in omega (arith, m, e))) noted_to
 
   -- a round later
-  module _ (r' : Placed) (before : r'.before.items ≡ now) (many : length now ≡ packs_of p) (placed : r'.places ≡ place (packs_running (set_boundary p.set.tasks) p.tree start) r.places) (room : r'.changes.room ≡ packs_of p)
+  module _ (r' : Placed) (before : r'.before.items ≡ now) (many : length now ≡ packs_of p) (placed : r'.places ≡ place
+      (packs_running (set_boundary p.set.tasks) p.tree start) r.places) (room : r'.changes.room ≡ packs_of p)
       (end : ℕ) (round : IsRoundUpTo p start end) where
     placed_end : r'.places ≡ places_of p end
     placed_end = placed ∙ ap (place rs) b.places ∙ sym (places_end p h start end round)
@@ -243,8 +250,10 @@ module _ (p : PlanContents) (h : IsPlan p) (start : ℕ) (r : Placed) (b : IsPla
     }
 
   -- what is told
-  module _ (places : Placing) (placed : places ≡ place (packs_running (set_boundary p.set.tasks) p.tree start) r.places) (many : length places.last ≡ length r.places.last)
-      (noted : IsNoted r.places.onto r.places.last) (noted' : IsNoted places.onto places.last) (told : List ℕ) (count : ℕ) (tells : AreTold places changes.seen told (length changes.seen) count)
+  module _ (places : Placing) (placed : places ≡ place (packs_running (set_boundary p.set.tasks) p.tree start) r.places) (many : length places.last ≡ length
+      r.places.last)
+      (noted : IsNoted r.places.onto r.places.last) (noted' : IsNoted places.onto places.last) (told : List ℕ) (count : ℕ) (tells : AreTold places
+      changes.seen told (length changes.seen) count)
       (q : ℕ) (l : q < p.tree.processors) where
     onto_new : places.onto ≡ onto_at (set_boundary p.set.tasks) p.tree start
     onto_new = ap (λ (w : Placing). w.onto) placed ∙ ap (λ (w : Placing). (place rs w).onto) b.places ∙ sym (onto_is (set_boundary p.set.tasks) p.tree start)
@@ -272,17 +281,21 @@ module _ (p : PlanContents) (h : IsPlan p) (start : ℕ) (r : Placed) (b : IsPla
       last_at i at = ap (λ (w : Placing). get_or w.last i None) placed ∙ at
 
       not_stopping : (i : ℕ) → (not (is_running rs i) && is_held r.places.onto i) ≡ true → get_or places.last i None ≢ Some q
-      not_stopping i on at = both_ways (not (is_running rs i) && is_held r.places.onto i) (not_stopped (is_running rs i) (is_held r.places.onto i) (still i at)) on
+      not_stopping i on at = both_ways (not (is_running rs i) && is_held r.places.onto i) (not_stopped (is_running rs i) (is_held r.places.onto i)
+          (still i at)) on
 
       not_beginning : (i : ℕ) → (is_running rs i && not (is_held r.places.onto i)) ≡ true → get_or places.last i None ≢ Some q
-      not_beginning i on at = both_ways (is_running rs i && not (is_held r.places.onto i)) (not_begun (is_running rs i) (is_held r.places.onto i) (still i at)) on
+      not_beginning i on at = both_ways (is_running rs i && not (is_held r.places.onto i)) (not_begun (is_running rs i) (is_held r.places.onto i)
+          (still i at)) on
 
       stays : get_or places.onto q None ≡ get_or r.places.onto q None
       stays =
           ap (λ (w : Placing). get_or w.onto q None) placed
           ∙ moved rs r.places noted (last_long p start r b) q
-          (λ k m at. not_stopping (get_or (stopping rs r.places.onto) k 0) (first_from (λ i. not (is_running rs i) && is_held r.places.onto i) (length rs) 0 k m).1 (last_at (get_or (stopping rs r.places.onto) k 0) at))
-          (λ k m at. not_beginning (get_or (waiting rs r.places.onto) k 0) (first_from (λ i. is_running rs i && not (is_held r.places.onto i)) (length rs) 0 k m).1 (last_at (get_or (waiting rs r.places.onto) k 0) at))
+          (λ k m at. not_stopping (get_or (stopping rs r.places.onto) k 0) (first_from (λ i. not (is_running rs i) && is_held r.places.onto i) (length rs) 0
+          k m).1 (last_at (get_or (stopping rs r.places.onto) k 0) at))
+          (λ k m at. not_beginning (get_or (waiting rs r.places.onto) k 0) (first_from (λ i. is_running rs i && not (is_held r.places.onto i)) (length rs) 0
+          k m).1 (last_at (get_or (waiting rs r.places.onto) k 0) at))
 
       module _ (before end : ℕ) (up : IsRoundUpTo p before start) (none : Row) where
         onto_old : r.places.onto ≡ onto_at (set_boundary p.set.tasks) p.tree before
@@ -293,13 +306,15 @@ module _ (p : PlanContents) (h : IsPlan p) (start : ℕ) (r : Placed) (b : IsPla
         leaf_same k None o' e is_now is_then on = absurd (both_ways (is_held places.onto k) (ap (λ os. is_held os k) onto_new ∙ is_now.none refl) on)
         leaf_same k (Some x) o' e is_now is_then on = is_now.leaf x refl ∙ sym (is_then.leaf x (sym e))
 
-        on_same : (o : Option ℕ) → get_or places.onto q None ≡ o → leaf_on (set_boundary p.set.tasks) p.tree start o ≡ leaf_on (set_boundary p.set.tasks) p.tree before o
+        on_same : (o : Option ℕ) → get_or places.onto q None ≡ o → leaf_on (set_boundary p.set.tasks) p.tree start o ≡ leaf_on (set_boundary p.set.tasks)
+            p.tree before o
         on_same None at = refl
         on_same (Some k) at =
             let last = (noted'.noted q k at).1 in
             let m = in_level k last in
             let same = noted_to.same k (let e = b.long in omega (arith, m, e)) (λ s. away (tell_seen k last s)) in
-            leaf_same k (get_or now k None) (get_or r.before.items k None) same (now_on k m) ((b.shown before up).each k m) (held_there places.onto q k there at)
+            leaf_same k (get_or now k None) (get_or r.before.items k None) same (now_on k m) ((b.shown before up).each k m) (held_there places.onto q k
+            there at)
 
         pub others_same : leaf_at p start end q none ≡ leaf_at p before start q none
         others_same =
@@ -318,7 +333,8 @@ module _ (p : PlanContents) (h : IsPlan p) (start : ℕ) (r : Placed) (b : IsPla
         let m = in_level i (noted'.noted q i at).1 in
         let same = noted_to.same i (let e = b.long in omega (arith, m, e)) away in
         let on : is_some (get_or r.before.items i None) ≡ true =
-        ap is_some (sym same) ∙ sym (held_some p start i (get_or now i None) (now_on i m)) ∙ ap (λ os. is_held os i) (sym onto_new) ∙ held_there places.onto q i there at in
+        ap is_some (sym same) ∙ sym (held_some p start i (get_or now i None) (now_on i m)) ∙ ap (λ os. is_held os i) (sym onto_new) ∙ held_there places.onto
+        q i there at in
         let off : is_some (get_or r.before.items i None) ≡ false =
         sym (b.held i m) ∙ ap (λ (w : Placing). is_held w.onto i) b.places ∙ ap (λ n. is_held (places_of p n).onto i) zero_is ∙ none_held p.tree.processors i in
         both_ways (is_some (get_or r.before.items i None)) off on)
@@ -331,26 +347,32 @@ module _ (p : PlanContents) (h : IsPlan p) (start : ℕ) (r : Placed) (b : IsPla
 
 -- ---- what a processor shows in the round just gone
 
-module _ (p : PlanContents) (h : IsPlan p) (start end : ℕ) (r : Placed) (b : IsPlacedUpTo p end r) (round : IsRoundUpTo p start end) (q : ℕ) (l : q < p.tree.processors) where
+module _ (p : PlanContents) (h : IsPlan p) (start end : ℕ) (r : Placed) (b : IsPlacedUpTo p end r) (round : IsRoundUpTo p start end) (q : ℕ)
+    (l : q < p.tree.processors) where
   onto_now : r.places.onto ≡ onto_at (set_boundary p.set.tasks) p.tree start
   onto_now = ap (λ (w : Placing). w.onto) b.places ∙ onto_end p h start end round
 
-  on_by : (k : ℕ) → get_or (onto_at (set_boundary p.set.tasks) p.tree start) q None ≡ Some k → (o : Option Leaf) → IsPackOn p start k o → (leaf : Leaf) → ((x : Leaf) → o ≡ Some x → leaf ≡ x) → leaf_on (set_boundary p.set.tasks) p.tree start (Some k) ≡ leaf
+  on_by : (k : ℕ) → get_or (onto_at (set_boundary p.set.tasks) p.tree start) q None ≡ Some k → (o : Option Leaf) → IsPackOn p start k o → (leaf : Leaf) →
+      ((x : Leaf) → o ≡ Some x → leaf ≡ x) → leaf_on (set_boundary p.set.tasks) p.tree start (Some k) ≡ leaf
   on_by k at None on leaf is = absurd (
       let long = as_many p h start in
-      both_ways (is_held (onto_at (set_boundary p.set.tasks) p.tree start) k) (on.none refl) (held_there (onto_at (set_boundary p.set.tasks) p.tree start) q k (omega (arith, l, long)) at))
+      both_ways (is_held (onto_at (set_boundary p.set.tasks) p.tree start) k) (on.none refl) (held_there (onto_at (set_boundary p.set.tasks) p.tree start) q
+      k (omega (arith, l, long)) at))
   on_by k at (Some x) on leaf is = on.leaf x refl ∙ sym (is x refl)
 
   pub pack_known : (k : ℕ) → get_or r.places.onto q None ≡ Some k → k < packs_of p
   pack_known k at = pack_within p h start q k l (ap (λ (os : List (Option ℕ)). get_or os q None) (sym onto_now) ∙ at)
 
-  shown_on : (pack : Option ℕ) → get_or r.places.onto q None ≡ pack → (leaf : Leaf) → (pack ≡ None → leaf ≡ Empty) → ((k : ℕ) (x : Leaf) → pack ≡ Some k → get_or r.before.items k None ≡ Some x → leaf ≡ x) →
+  shown_on : (pack : Option ℕ) → get_or r.places.onto q None ≡ pack → (leaf : Leaf) → (pack ≡ None → leaf ≡ Empty) → ((k : ℕ) (x : Leaf) → pack ≡ Some k →
+      get_or r.before.items k None ≡ Some x → leaf ≡ x) →
       leaf_on (set_boundary p.set.tasks) p.tree start pack ≡ leaf
   shown_on None at leaf empty is = sym (empty refl)
   shown_on (Some k) at leaf empty is =
-      on_by k (ap (λ (os : List (Option ℕ)). get_or os q None) (sym onto_now) ∙ at) (get_or r.before.items k None) ((b.shown start round).each k (pack_known k at)) leaf (λ x e. is k x refl e)
+      on_by k (ap (λ (os : List (Option ℕ)). get_or os q None) (sym onto_now) ∙ at) (get_or r.before.items k None) ((b.shown start round).each k
+      (pack_known k at)) leaf (λ x e. is k x refl e)
 
-  pub shown_by : (pack : Option ℕ) → get_or r.places.onto q None ≡ pack → (leaf : Leaf) → (pack ≡ None → leaf ≡ Empty) → ((k : ℕ) (x : Leaf) → pack ≡ Some k → get_or r.before.items k None ≡ Some x → leaf ≡ x) →
+  pub shown_by : (pack : Option ℕ) → get_or r.places.onto q None ≡ pack → (leaf : Leaf) → (pack ≡ None → leaf ≡ Empty) →
+      ((k : ℕ) (x : Leaf) → pack ≡ Some k → get_or r.before.items k None ≡ Some x → leaf ≡ x) →
       (none : Row) → leaf_at p start end q none ≡ leaf
   shown_by pack at leaf empty is none =
       leaf_is p start end q none l

@@ -1,5 +1,6 @@
 -- The rounds of one part go on, computed or kept.
-use Rattle.std.proofs.Common.{◌≡◌, ℕ, zero, suc, ◌+◌, ◌*◌, ◌<◌, ◌≤◌, ◌^◌, inl, inr, min, List, [], ◌∷◌, length, get_or, Option, None, Vec, Global, true, false, refl, sym, ap, subst, ◌∙◌, arith, mul-le-mul_right, le_of_lt}
+use Rattle.std.proofs.Common.{◌≡◌, ℕ, zero, suc, ◌+◌, ◌*◌, ◌<◌, ◌≤◌, ◌^◌, inl, inr, min, List, [], ◌∷◌, length, get_or, Option, None, Vec, Global}
+use Rattle.std.proofs.Common.{true, false, refl, sym, ap, subst, ◌∙◌, arith, mul-le-mul_right, le_of_lt}
 use Rattle.std.specs.Vec.{with_items}
 use Rattle.std.proofs.Math.Nat.{lt_of_mul-lt-mul_right}
 use Rattle.std.proofs.lemmas.Bool.{cases_lt}
@@ -36,8 +37,10 @@ ticks_same f a b some same = elim (cases_lt a b) [
 -- the earlier of two is the earlier one where ticks are longer
 min_ticks : (f a b : ℕ) → min (a * f) (b * f) ≡ min a b * f
 min_ticks f a b = elim (cases_lt a b) [
-  | inl low ↦ (let m : a * f ≤ b * f = mul-le-mul_right f (le_of_lt low) in let e : a ≡ min a b = omega (arith, low) in let e' = ap (λ n. n * f) e in omega (arith, m, e'))
-  | inr high ↦ (let m : b * f ≤ a * f = mul-le-mul_right f high in let e : b ≡ min a b = omega (arith, high) in let e' = ap (λ n. n * f) e in omega (arith, m, e'))
+  | inl low ↦ (let m : a * f ≤ b * f = mul-le-mul_right f (le_of_lt low) in let e : a ≡ min a b = omega (arith, low) in let e' = ap (λ n. n * f) e in
+      omega (arith, m, e'))
+  | inr high ↦ (let m : b * f ≤ a * f = mul-le-mul_right f high in let e : b ≡ min a b = omega (arith, high) in let e' = ap (λ n. n * f) e in
+      omega (arith, m, e'))
 ]
 
 -- all rounds end at the same time
@@ -49,7 +52,8 @@ stop_part whole part is =
 
 -- what ends before all rounds does so in either
 pub early_part : (whole : PlanContents) (part : PartPlan) → IsPartPlanOf whole part → (n : ℕ) → n * part.factor < stop_of whole → n < stop_of part.plan
-early_part whole part is n l = let e = stop_part whole part is in lt_of_mul-lt-mul_right part.factor (let l' : n * part.factor < stop_of part.plan * part.factor = omega (arith, l, e) in l')
+early_part whole part is n l = let e = stop_part whole part is in lt_of_mul-lt-mul_right part.factor (let l' : n * part.factor < stop_of
+    part.plan * part.factor = omega (arith, l, e) in l')
 
 -- nor does what ends with them end later in either
 pub within_part : (whole : PlanContents) (part : PartPlan) → IsPartPlanOf whole part → (n : ℕ) → n ≤ stop_of part.plan → n * part.factor ≤ stop_of whole
@@ -112,7 +116,8 @@ behind_round : (ends : List ℕ) (i : ℕ) → round_start 0 ends (i + 1) ≡ ge
 behind_round ends i = let e : i + 1 ≡ suc i = omega arith in ap (round_start 0 ends) e
 
 -- what runs in a round runs so many hyperperiods later
-runs_later : (p : PlanContents) → IsPlan p → CanComeRound p → (ticks : ℕ) → AreTurns p ticks → (n : ℕ) → n + ticks < stop_of p → (x : ℕ) → x < length p.tree.nodes →
+runs_later : (p : PlanContents) → IsPlan p → CanComeRound p → (ticks : ℕ) → AreTurns p ticks → (n : ℕ) → n + ticks < stop_of p → (x : ℕ) →
+    x < length p.tree.nodes →
     runs_at p x (n + ticks) ≡ runs_at p x n
 runs_later p h can ticks turns n l x in_tree =
     ap (λ d. runs_at p x (n + d)) turns.are
@@ -132,7 +137,8 @@ shown_later part h can ticks turns n l k m o was =
           was.leaf leaf j e lj (sym (runs_later part.plan h can ticks turns n l (own_member part k j) member.0.0) ∙ on);
     }
 
-module _ (whole : PlanContents) (r : PartRounds) (b : IsPartRoundsOf whole r) (on : r.replays ≡ true) (soon : r.end < stop_of whole) (h : IsPlan r.part.plan) where
+module _ (whole : PlanContents) (r : PartRounds) (b : IsPartRoundsOf whole r) (on : r.replays ≡ true) (soon : r.end < stop_of whole)
+    (h : IsPlan r.part.plan) where
   -- how they come again
   abbrev again : AreAgain r
   again = b.again on
@@ -146,7 +152,8 @@ module _ (whole : PlanContents) (r : PartRounds) (b : IsPartRoundsOf whole r) (o
   shows_within =
       let next = again.next in
       let long = again.kept.long in
-      let m : (r.next + 1) * packs_of r.part.plan ≤ length r.kept.ends.items * packs_of r.part.plan = mul-le-mul_right (packs_of r.part.plan) (omega (arith, next)) in
+      let m : (r.next + 1) * packs_of r.part.plan ≤ length r.kept.ends.items * packs_of r.part.plan = mul-le-mul_right (packs_of r.part.plan)
+      (omega (arith, next)) in
       omega (arith, m, long)
 
   -- it begins before all rounds end
@@ -195,7 +202,8 @@ module _ (whole : PlanContents) (r : PartRounds) (b : IsPartRoundsOf whole r) (o
   -- in it the same is shown as in the kept one
   shown_part : (k : ℕ) → k < packs_of r.part.plan → IsShownAt r.part (kept.first + again.past) k (kept_at r.part r.kept r.next k)
   shown_part k m = elim again.shifts [
-    | inl none ↦ (let e : kept.first ≡ kept.first + again.past = omega (arith, none) in subst (λ (n : ℕ). IsShownAt r.part n k (kept_at r.part r.kept r.next k)) e (kept.each k m))
+    | inl none ↦ (let e : kept.first ≡ kept.first + again.past = omega (arith, none) in subst (λ (n : ℕ). IsShownAt r.part n k (kept_at r.part r.kept r.next
+        k)) e (kept.each k m))
     | inr turns ↦ shown_later r.part h again.can again.past turns kept.first soon_part k m (kept_at r.part r.kept r.next k) (kept.each k m)
   ]
 
@@ -210,7 +218,8 @@ module _ (whole : PlanContents) (r : PartRounds) (b : IsPartRoundsOf whole r) (o
       omega (arith, end, shift, stop, stop', m)
 
   -- it is a round of the part
-  pub again_round : (end : ℕ) (shows : List (Option Leaf)) → end ≡ min (get_or r.kept.ends.items r.next 0 + r.shift) r.stop → length shows ≡ packs_of r.part.plan →
+  pub again_round : (end : ℕ) (shows : List (Option Leaf)) → end ≡ min (get_or r.kept.ends.items r.next 0 + r.shift) r.stop → length shows ≡ packs_of
+      r.part.plan →
       ((k : ℕ) → k < packs_of r.part.plan → get_or shows k None ≡ kept_at r.part r.kept r.next k) → IsPartRound r.part r.end end shows
   again_round end shows at long is = record {
     first = kept.first + again.past;
@@ -223,7 +232,8 @@ module _ (whole : PlanContents) (r : PartRounds) (b : IsPartRoundsOf whole r) (o
   }
 
   -- so it is where what is kept of it is written over what was told
-  module _ (end : ℕ) (at : end ≡ min (get_or r.kept.ends.items r.next 0 + r.shift) r.stop) (count : ℕ) (many : count ≡ packs_of r.part.plan) (kept_shows shows new : List (Option Leaf))
+  module _ (end : ℕ) (at : end ≡ min (get_or r.kept.ends.items r.next 0 + r.shift) r.stop) (count : ℕ) (many : count ≡ packs_of r.part.plan)
+      (kept_shows shows new : List (Option Leaf))
       (kept_is : kept_shows ≡ r.kept.shows.items) (was : shows ≡ r.shows.items) (same : length new ≡ length shows)
       (each : (k : ℕ) → k < length shows → get_or new k None ≡ get_or kept_shows (r.next * count + k) None) where
     pub written_long : length new ≡ packs_of r.part.plan
@@ -270,7 +280,8 @@ module _ (whole : PlanContents) (r : PartRounds) (b : IsPartRoundsOf whole r) (o
       let e = over all in
       omega (arith, fits, e)
 
-  module _ (end : ℕ) (shows : Vec (Option Leaf) Global) (long : length shows.items ≡ packs_of r.part.plan) (at : end ≡ min (get_or r.kept.ends.items r.next 0 + r.shift) r.stop) where
+  module _ (end : ℕ) (shows : Vec (Option Leaf) Global) (long : length shows.items ≡ packs_of r.part.plan) (at : end ≡ min (get_or r.kept.ends.items r.next
+      0 + r.shift) r.stop) where
     -- it ends no later than all rounds
     ends_within : end ≤ stop_of whole
     ends_within = let stop = b.stop in omega (arith, at, stop)
@@ -302,7 +313,8 @@ module _ (whole : PlanContents) (r : PartRounds) (b : IsPartRoundsOf whole r) (o
     }
 
     -- and behind the last one the first again
-    pub again_first : (r.next + 1 < length r.kept.ends.items → ⊥) → IsPartRoundsOf whole (record r { next = 0; shift = r.shift + r.turn; end = end; shows = shows })
+    pub again_first : (r.next + 1 < length r.kept.ends.items → ⊥) →
+        IsPartRoundsOf whole (record r { next = 0; shift = r.shift + r.turn; end = end; shows = shows })
     again_first all = record {
       part = b.part;
       stop = b.stop;
@@ -331,7 +343,8 @@ module _ (whole : PlanContents) (r : PartRounds) (b : IsPartRoundsOf whole r) (o
     }
 
 -- they begin again at tick 0
-pub again_begins : (whole : PlanContents) (r : PartRounds) → IsPartPlanOf whole r.part → IsPlan r.part.plan → CanComeRound r.part.plan → (turn : ℕ) → AreTurns r.part.plan turn →
+pub again_begins : (whole : PlanContents) (r : PartRounds) → IsPartPlanOf whole r.part → IsPlan r.part.plan → CanComeRound r.part.plan → (turn : ℕ) →
+    AreTurns r.part.plan turn →
     AreKeptOf r.part r.kept → kept_end r.kept ≡ turn * r.part.factor → length r.shows.items ≡ packs_of r.part.plan →
     r.replays ≡ true → r.next ≡ 0 → r.shift ≡ 0 → r.turn ≡ turn * r.part.factor → r.stop ≡ stop_of whole → r.end ≡ 0 →
     IsPartRoundsOf whole r

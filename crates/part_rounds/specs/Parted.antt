@@ -14,7 +14,8 @@ use Rattle.part_rounds.specs.Placed.{IsPlacedUpTo}
 -- each node of the plan stands in one of these parts, and has a like there
 pub record IsCovered (whole : PlanContents) (parts : List PartRounds) (part like : List ℕ) : Type 0 where
   pub within : (x : ℕ) → x < length whole.tree.nodes → slice_index part x < length parts
-  pub known : (x : ℕ) (r : PartRounds) → x < length whole.tree.nodes → slice_get parts (slice_index part x) ≡ Some r → slice_index like x < length r.part.plan.tree.nodes
+  pub known : (x : ℕ) (r : PartRounds) → x < length whole.tree.nodes → slice_get parts (slice_index part x) ≡ Some r →
+      slice_index like x < length r.part.plan.tree.nodes
   pub likes : (x : ℕ) (r : PartRounds) → x < length whole.tree.nodes → slice_get parts (slice_index part x) ≡ Some r → onto_of r.part (slice_index like x) ≡ x
 
 -- of each pack of a part this list tells by its number in the whole plan what the part tells of it

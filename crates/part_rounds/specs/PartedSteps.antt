@@ -27,4 +27,5 @@ pub record ArePartsAt (whole : PlanContents) (parts : List PartRounds) (tick : �
 pub record AreLooked (whole : PlanContents) (start end : ℕ) (told : List ℕ) (n : ℕ) (before after : List (Option Leaf)) : Type 0 where
   pub long : length after ≡ length before
   pub each : (q : ℕ) (none : Row) → q < length before →
-      (slice_index_or after q None ≡ Some (leaf_at whole start end q none)) ⊎ ((IsTold told n q → ⊥) × (slice_index_or after q None ≡ slice_index_or before q None))
+      (slice_index_or after q None ≡ Some (leaf_at whole start end q none)) ⊎
+      ((IsTold told n q → ⊥) × (slice_index_or after q None ≡ slice_index_or before q None))

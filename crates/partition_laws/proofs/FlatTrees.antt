@@ -1,5 +1,6 @@
 -- Trees whose packs of level 0 are all roots: they have no other level, so each member is a leaf of a pack that always runs.
-use Rattle.std.proofs.Common.{Bool, List, None, Some, ap, arith, filter, get_or, inl, inr, length, refl, subst, suc, sym, true, zero, ℕ, ◌&&◌, ◌+◌, ◌<◌, ◌∙◌, ◌≡◌, ◌≤◌}
+use Rattle.std.proofs.Common.{Bool, List, None, Some, ap, arith, filter, get_or, inl, inr, length, refl, subst, suc, sym, true, zero, ℕ, ◌&&◌, ◌+◌}
+use Rattle.std.proofs.Common.{◌<◌, ◌∙◌, ◌≡◌, ◌≤◌}
 use Rattle.std.specs.List.{range_with_len}
 use Rattle.std.proofs.lemmas.Bool.{both_ways, cases_Bool, cases_eq}
 use Rattle.sched_base.specs.declared.rows.Leaf.{Leaf}
@@ -16,7 +17,8 @@ use Rattle.sched_laws.proofs.Packs.{candidates, run_at}
 use Rattle.partition_laws.specs.Partitions.{IsPartitioned, first_pack, member_count, member_of}
 
 -- a number of the range that passes stands somewhere among those that do
-pub found_in : (p : ℕ → Bool) (n a x : ℕ) → a ≤ x → x < a + n → p x ≡ true → (i : ℕ) × (i < length (filter p (range_with_len a n))) × (get_or (filter p (range_with_len a n)) i 0 ≡ x)
+pub found_in : (p : ℕ → Bool) (n a x : ℕ) → a ≤ x → x < a + n → p x ≡ true → (i : ℕ) × (i < length (filter p (range_with_len a n)))
+    × (get_or (filter p (range_with_len a n)) i 0 ≡ x)
 found_in p zero a x l m on = absurd (omega (arith, l, m))
 found_in p (suc n) a x l m on =
     let P : List ℕ → Type 0 = λ xs. (i : ℕ) × (i < length xs) × (get_or xs i 0 ≡ x) in

@@ -17,17 +17,25 @@ pub event_there : (whole own : PlanContents) (i f : ℕ) (w : IsPlan whole) (o :
     (n : ℕ) → 0 < n → n % f ≡ 0 → is_event (set_boundary own.set.tasks) own.tree (n / f) ≡ true → is_event (set_boundary whole.set.tasks) whole.tree n ≡ true
 event_there whole own i f w o roots is = parts.event_there whole own (own_onto whole own i) f w o (is_part whole own i f w o roots is)
 
-module _ (whole : PlanContents) (own : ℕ → PlanContents) (factor : ℕ → ℕ) (w : IsPlan whole) (o : (i : ℕ) → IsPlan (own i)) (roots : IsPartitioned whole.tree) (are : AreOwnPlans whole own factor) where
+module _ (whole : PlanContents) (own : ℕ → PlanContents) (factor : ℕ → ℕ) (w : IsPlan whole) (o : (i : ℕ) → IsPlan (own i)) (roots : IsPartitioned
+    whole.tree) (are : AreOwnPlans whole own factor) where
   -- the packs are parts of the plan
   pub are_parts : (i : ℕ) → i < length (packs_at whole.tree 0) → IsPartPlan whole (own i) (own_onto whole (own i) i) (factor i)
   are_parts i l = is_part whole (own i) i (factor i) w (o i) roots (are i l)
 
   -- each member has a like in the own plan of its pack
-  pub has_own : (x : ℕ) → IsMember whole.tree x → HasLike whole own (λ i. own_onto whole (own i) i) factor (length (packs_at whole.tree 0)) w (λ i l. o i) are_parts x
+  pub has_own : (x : ℕ) → IsMember whole.tree x → HasLike whole own (λ i. own_onto whole (own i) i) factor (length (packs_at whole.tree 0)) w (λ i l. o i)
+      are_parts x
   has_own x m =
       let (i, k, li, lk, same) = member_from whole.tree w.tree.tree roots x m in
-      let l : k < member_count (own i).tree 0 = (let s = (are i li).same in omega (arith, s, lk)) in
-      (i, member_of (own i).tree 0 k, li, own_member whole (own i) i (factor i) w (o i) roots (are i li) k l, onto_member whole (own i) i (factor i) w (o i) roots (are i li) k l ∙ same)
+      let l : k < member_count (own i).tree 0 = (let s = (are i li).same in omega (arith, s, lk)) in (
+        i,
+        member_of (own i).tree 0 k,
+        li,
+        own_member whole (own i) i (factor i) w (o i) roots (are i li) k l,
+        onto_member whole (own i) i (factor i) w (o i)
+            roots (are i li) k l ∙ same,
+      )
 
   -- a tick is an event of the whole plan where it is one of the own plan of some pack
   pub event_of_some : (n i : ℕ) → 0 < n → i < length (packs_at whole.tree 0) → n % factor i ≡ 0 →

@@ -1,5 +1,6 @@
 -- Where every pack of level 0 is a root, each processor holds the pack of its number, and what runs there is what the pack's own plan runs.
-use Rattle.std.proofs.Common.{Bool, List, None, Option, Some, ap, arith, false, filter, get_or, length, map, not, refl, replicate, suc, sym, true, zero, zero-add, ℕ, ◌&&◌, ◌+◌, ◌/◌, ◌<◌, ◌∙◌, ◌∷◌, ◌≡◌, ◌≤◌}
+use Rattle.std.proofs.Common.{Bool, List, None, Option, Some, ap, arith, false, filter, get_or, length, map, not, refl, replicate, suc, sym, true}
+use Rattle.std.proofs.Common.{zero, zero-add, ℕ, ◌&&◌, ◌+◌, ◌/◌, ◌<◌, ◌∙◌, ◌∷◌, ◌≡◌, ◌≤◌}
 use Rattle.std.specs.List.{range_with_len}
 use Rattle.std.proofs.lemmas.Bool.{and_from, and_right, cond-true}
 use Rattle.sched_base.specs.Candidates.{is_at}
@@ -81,7 +82,8 @@ module _ (whole : PlanContents) (w : IsPlan whole) (roots : IsPartitioned whole.
   all_running n i l =
       let p = is_first whole.tree w.tree.tree roots i l in
       running_is (set_boundary whole.set.tasks) whole.tree n i l
-      ∙ run_root (set_boundary whole.set.tasks) whole.tree w.tree.tree (plan_leaves whole w) (first_pack whole.tree i) n p (root_pack whole.tree w.tree.tree roots (first_pack whole.tree i) p)
+      ∙ run_root (set_boundary whole.set.tasks) whole.tree w.tree.tree (plan_leaves whole w) (first_pack whole.tree i) n p (root_pack whole.tree w.tree.tree
+      roots (first_pack whole.tree i) p)
 
   -- there are as many as processors
   pub as_many : length (packs_at whole.tree 0) ≡ whole.tree.processors
@@ -89,7 +91,8 @@ module _ (whole : PlanContents) (w : IsPlan whole) (roots : IsPartitioned whole.
       let running = packs_running (set_boundary whole.set.tasks) whole.tree 0 in
       let long = length-running (set_boundary whole.set.tasks) whole.tree 0 in
       let count = running_count (set_boundary whole.set.tasks) whole.tree w.tree.tree (plan_leaves whole w) 0 in
-      let all = sum_to-same (length running) (λ i. bit (is_running running i)) (λ i. 1) (λ i l. bit_at (is_running running i) (all_running 0 i (omega (arith, l, long)))) in
+      let all = sum_to-same (length running) (λ i. bit (is_running running i)) (λ i. 1) (λ i l. bit_at (is_running running i)
+      (all_running 0 i (omega (arith, l, long)))) in
       let ones = sum_to-ones (length running) in
       omega (arith, long, count, all, ones)
 
@@ -110,5 +113,6 @@ pub leaf_own : (whole own : PlanContents) (i f : ℕ) (w : IsPlan whole) (o : Is
     leaf_on (set_boundary whole.set.tasks) whole.tree n (Some i) ≡ leaf whole.tree (member_of whole.tree i k)
 leaf_own whole own i f w o roots is n k l on =
     let p = own_is_pack whole own i f w o roots is in
-    shown_there whole own (own_onto whole own i) f w o (is_part whole own i f w o roots is) n i (first_pack own.tree 0) k p (sym (onto_pack whole own i f w o roots is (first_pack own.tree 0) p)) l on
+    shown_there whole own (own_onto whole own i) f w o (is_part whole own i f w o roots is) n i (first_pack own.tree 0) k p
+    (sym (onto_pack whole own i f w o roots is (first_pack own.tree 0) p)) l on
     ∙ ap (leaf whole.tree) (onto_member whole own i f w o roots is k l)

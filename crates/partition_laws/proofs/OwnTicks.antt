@@ -77,7 +77,10 @@ module _ (whole own : PlanContents) (i f : ℕ) (w : IsPlan whole) (o : IsPlan o
     duals_are = λ p j. (
         let root = root_pack whole.tree w.tree.tree roots (first_pack whole.tree i) (is_first whole.tree w.tree.tree roots i is.pack) in
         ap (dual whole.tree) (onto_pack p j) ∙ root ∙ sym (ap (option_map (own_onto whole own i)) (root_pack own.tree o.tree.tree is.root p j)));
-    alike = λ x leaf_x. by_place (λ y z. AreAlike whole.set.tasks own.set.tasks (leaf whole.tree y) (leaf own.tree z)) is.alike x (leaf_x.0, not_pack_leaf (kind_at own.tree x) leaf_x.1);
+    alike = λ x leaf_x. by_place (λ y z. AreAlike whole.set.tasks own.set.tasks (leaf whole.tree y) (leaf own.tree z)) is.alike x (
+      leaf_x.0,
+      not_pack_leaf (kind_at own.tree x) leaf_x.1,
+    );
     rates = λ x m. by_place (λ y z. rate whole.tree y ≡ f * rate own.tree z) is.rates x m;
   }
 

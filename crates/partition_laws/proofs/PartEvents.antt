@@ -1,5 +1,6 @@
 -- The events of a plan are those of its parts' own plans.
-use Rattle.std.proofs.Common.{ap, ap₂, arith, div-add-mod', false, inl, inr, mul-le-mul_right, subst, suc, sym, true, zero, ℕ, ◌%◌, ◌*◌, ◌+◌, ◌/◌, ◌<◌, ◌∙◌, ◌≡◌, ◌⊎◌}
+use Rattle.std.proofs.Common.{ap, ap₂, arith, div-add-mod', false, inl, inr, mul-le-mul_right, subst, suc, sym, true, zero, ℕ, ◌%◌, ◌*◌, ◌+◌, ◌/◌}
+use Rattle.std.proofs.Common.{◌<◌, ◌∙◌, ◌≡◌, ◌⊎◌}
 use Rattle.std.proofs.lemmas.Bool.{both_ways, cases_Bool, cases_eq, false_from_ne_true}
 use Rattle.run_tree.specs.Boundaries.{set_boundary}
 use Rattle.run_tree.specs.Plans.{IsPlan, PlanContents}
@@ -17,7 +18,8 @@ use Rattle.partition_laws.proofs.PartTicks.{none_there, runs_there, some_there}
 use Rattle.partition_laws.proofs.PlanEvents.{Begins, Dries, begin_event, dry_event, event_parts}
 
 -- a member that runs has something left
-pub some_left : (p : PlanContents) → IsPlan p → (n x : ℕ) → IsMember p.tree x → runs (set_boundary p.set.tasks) p.tree x n ≡ true → 0 < left_at (set_boundary p.set.tasks) p.tree n x
+pub some_left : (p : PlanContents) → IsPlan p → (n x : ℕ) → IsMember p.tree x → runs (set_boundary p.set.tasks) p.tree x n ≡ true →
+    0 < left_at (set_boundary p.set.tasks) p.tree n x
 some_left p is n x m =
     let b = set_boundary p.set.tasks in
     let (i, l, same) = is.tree.tree.homes_are x m in
@@ -58,7 +60,8 @@ module _ (whole own : PlanContents) (onto : ℕ → ℕ) (f : ℕ) (w : IsPlan w
       go (inl here) = here
       go (inr (inl a_dual)) =
           (let (p, e, up) = o.tree.tree.duals_are x (m.0, a_dual) in
-          let there = (w.tree.tree.has_dual (onto (primal own.tree x)) (onto x) (is.packs (primal own.tree x) p) (dual_there whole own onto f w o is (primal own.tree x) x p e)).0 in
+          let there = (w.tree.tree.has_dual (onto (primal own.tree x)) (onto x) (is.packs (primal own.tree x) p) (dual_there whole own onto f w o is
+          (primal own.tree x) x p e)).0 in
           absurd (both_ways (is_leaf (kind_at whole.tree (onto x))) (dual_no_leaf (kind_at whole.tree (onto x)) there.1) a_leaf))
       go (inr (inr a_pack)) = absurd (both_ways (is_pack (kind_at own.tree x)) m.1 a_pack)
 
@@ -71,7 +74,8 @@ module _ (whole own : PlanContents) (onto : ℕ → ℕ) (f : ℕ) (w : IsPlan w
         unit_begins n z at.0,
         leaf_there whole own onto f w o is x at.1,
         alike_task whole.set.tasks own.set.tasks l m a ∙ at.2,
-        ap (set_boundary whole.set.tasks l) (unit_there whole own onto f w o is n) ∙ alike_boundary whole.set.tasks own.set.tasks l m a (n / f / own.tree.scale) ∙ at.3,
+        ap (set_boundary whole.set.tasks l) (unit_there whole own onto f w o is n) ∙ alike_boundary whole.set.tasks own.set.tasks l m a
+            (n / f / own.tree.scale) ∙ at.3,
       )
 
   -- and the other way round
@@ -87,7 +91,8 @@ module _ (whole own : PlanContents) (onto : ℕ → ℕ) (f : ℕ) (w : IsPlan w
           u.1,
           here,
           sym (alike_task whole.set.tasks own.set.tasks l m a) ∙ at.2,
-          sym (alike_boundary whole.set.tasks own.set.tasks l m a (n / f / own.tree.scale)) ∙ sym (ap (set_boundary whole.set.tasks l) (unit_there whole own onto f w o is n)) ∙ at.3,
+          sym (alike_boundary whole.set.tasks own.set.tasks l m a (n / f / own.tree.scale)) ∙ sym (ap (set_boundary whole.set.tasks l)
+              (unit_there whole own onto f w o is n)) ∙ at.3,
         ),
       )
 
@@ -131,7 +136,8 @@ module _ (whole own : PlanContents) (onto : ℕ → ℕ) (f : ℕ) (w : IsPlan w
       ]
 
   -- each event of the own plan is one of the whole plan
-  pub event_there : (n : ℕ) → 0 < n → n % f ≡ 0 → is_event (set_boundary own.set.tasks) own.tree (n / f) ≡ true → is_event (set_boundary whole.set.tasks) whole.tree n ≡ true
+  pub event_there : (n : ℕ) → 0 < n → n % f ≡ 0 → is_event (set_boundary own.set.tasks) own.tree (n / f) ≡ true → is_event (set_boundary whole.set.tasks)
+      whole.tree n ≡ true
   event_there zero some z e = absurd (omega (arith, some))
   event_there (suc n) some z e =
       let step = step_at n f (some_ticks whole own onto f w o is) z in

@@ -1,5 +1,6 @@
 -- The nodes of a part and their likes in its own plan: they stand at like places and have the same boundaries.
-use Rattle.std.proofs.Common.{Bool, List, None, Option, Some, [], ap, arith, false, get_or, inl, inr, length, map, option_map, refl, subst, suc, sym, true, zero, ℕ, ◌<◌, ◌/◌, ◌∙◌, ◌∷◌, ◌≡◌}
+use Rattle.std.proofs.Common.{Bool, List, None, Option, Some, [], ap, arith, false, get_or, inl, inr, length, map, option_map, refl, subst, suc, sym}
+use Rattle.std.proofs.Common.{true, zero, ℕ, ◌<◌, ◌/◌, ◌∙◌, ◌∷◌, ◌≡◌}
 use Rattle.std.proofs.Math.Nat.{div-div-eq-div-mul}
 use Rattle.std.proofs.lemmas.Bool.{both_ways}
 use Rattle.std.proofs.lemmas.List.{ext_get_or, get_or-map, length-map}
@@ -21,13 +22,15 @@ pub plan_leaves : (p : PlanContents) → IsPlan p → HaveBoundaries (set_bounda
 plan_leaves p is = set_leaves p.set.tasks is.lawful.each p.tree is.tree.tasks
 
 -- some item of a list passes where one of another does, where all pass alike
-pub any_same : (p q : ℕ → Bool) (xs ys : List ℕ) → length xs ≡ length ys → ((k : ℕ) → k < length ys → p (get_or xs k 0) ≡ q (get_or ys k 0)) → any_of p xs ≡ any_of q ys
+pub any_same : (p q : ℕ → Bool) (xs ys : List ℕ) → length xs ≡ length ys → ((k : ℕ) → k < length ys → p (get_or xs k 0) ≡ q (get_or ys k 0)) →
+    any_of p xs ≡ any_of q ys
 any_same p q [] [] long same = refl
 any_same p q [] (y ∷ ys) long same = absurd (omega (arith, long))
 any_same p q (x ∷ xs) [] long same = absurd (omega (arith, long))
 any_same p q (x ∷ xs) (y ∷ ys) long same =
     ap (λ (b : Bool). elim b as (λ c. Bool) [ true ↦ true | false ↦ any_of p xs ]) (same 0 (omega arith))
-    ∙ ap (λ (r : Bool). elim (q y) as (λ c. Bool) [ true ↦ true | false ↦ r ]) (any_same p q xs ys (omega (arith, long)) (λ k l. same (suc k) (omega (arith, l))))
+    ∙ ap (λ (r : Bool). elim (q y) as (λ c. Bool) [ true ↦ true | false ↦ r ]) (any_same p q xs ys (omega (arith, long))
+    (λ k l. same (suc k) (omega (arith, l))))
 
 -- a pack's boundaries are those of its members
 pub pack_any : (of_leaf : Leaf → ℕ → Bool) (t : Tree) (h : IsTree t) (leaves : HaveBoundaries of_leaf t) (p u : ℕ) → IsPack t p →
@@ -37,8 +40,10 @@ pack_any of_leaf t h leaves p u i = bound_pack of_leaf t h p i u ∙ go (level t
     go : (n : ℕ) → level t p ≡ n → pack_boundary of_leaf t n p u ≡ any_of (λ x. is_boundary of_leaf t x u) (members t p)
     go zero at = any_same (λ x. member_boundary of_leaf (λ q v. false) (kind_at t x) u) (λ x. is_boundary of_leaf t x u) (members t p) (members t p) refl
         (λ k l. member_value of_leaf t h leaves p k u i l (λ q v. false) (λ q j up. absurd (omega (arith, up, at))))
-    go (suc n) at = any_same (λ x. member_boundary of_leaf (λ q v. pack_boundary of_leaf t n q v) (kind_at t x) u) (λ x. is_boundary of_leaf t x u) (members t p) (members t p) refl
-        (λ k l. member_value of_leaf t h leaves p k u i l (λ q v. pack_boundary of_leaf t n q v) (λ q j up. ap (λ m. pack_boundary of_leaf t m q u) (omega (arith, up, at))))
+    go (suc n) at = any_same (λ x. member_boundary of_leaf (λ q v. pack_boundary of_leaf t n q v) (kind_at t x) u) (λ x. is_boundary of_leaf t x u)
+        (members t p) (members t p) refl
+        (λ k l. member_value of_leaf t h leaves p k u i l (λ q v. pack_boundary of_leaf t n q v) (λ q j up. ap (λ m. pack_boundary of_leaf t m q u)
+        (omega (arith, up, at))))
 
 module _ (whole own : PlanContents) (onto : ℕ → ℕ) (f : ℕ) (w : IsPlan whole) (o : IsPlan own) (is : IsPartPlan whole own onto f) where
   -- the factor is some number
@@ -58,7 +63,8 @@ module _ (whole own : PlanContents) (onto : ℕ → ℕ) (f : ℕ) (w : IsPlan w
       (λ k l. (let b : k < length (members own.tree p) = omega (arith, l, long) in is.members_are p k i b ∙ sym (get_or-map onto (members own.tree p) k 0 0 b)))
 
   -- a member's like is a member of its home's like, at the same place
-  pub member_there : (x : ℕ) → IsMember own.tree x → IsMember whole.tree (onto x) × (home whole.tree (onto x) ≡ onto (home own.tree x)) × (place whole.tree (onto x) ≡ place own.tree x)
+  pub member_there : (x : ℕ) → IsMember own.tree x → IsMember whole.tree (onto x) × (home whole.tree (onto x) ≡ onto (home own.tree x))
+      × (place whole.tree (onto x) ≡ place own.tree x)
   member_there x m =
       let (i, l, same) = o.tree.tree.homes_are x m in
       let long = is.same (home own.tree x) i in
@@ -100,7 +106,8 @@ module _ (whole own : PlanContents) (onto : ℕ → ℕ) (f : ℕ) (w : IsPlan w
   pub same_dual : (x u : ℕ) → IsDual own.tree x → its_bound (primal own.tree x) u ≡ own_bound (primal own.tree x) u → its_bound x u ≡ own_bound x u
   same_dual x u i same =
       let (p, e, up) = o.tree.tree.duals_are x i in
-      dual_bounds (set_boundary whole.set.tasks) whole.tree w.tree.tree (onto (primal own.tree x)) (onto x) (is.packs (primal own.tree x) p) (dual_there (primal own.tree x) x p e) u
+      dual_bounds (set_boundary whole.set.tasks) whole.tree w.tree.tree (onto (primal own.tree x)) (onto x) (is.packs (primal own.tree x) p)
+      (dual_there (primal own.tree x) x p e) u
       ∙ same
       ∙ sym (bound_dual (set_boundary own.set.tasks) own.tree o.tree.tree x i u)
 
@@ -127,7 +134,8 @@ module _ (whole own : PlanContents) (onto : ℕ → ℕ) (f : ℕ) (w : IsPlan w
       ((q : ℕ) → IsPack own.tree q → suc (level own.tree q) ≡ level own.tree p → its_bound q u ≡ own_bound q u) → its_bound p u ≡ own_bound p u
   same_over p u i under =
       pack_any (set_boundary whole.set.tasks) whole.tree w.tree.tree (plan_leaves whole w) (onto p) u (is.packs p i)
-      ∙ any_same (λ x. is_boundary (set_boundary whole.set.tasks) whole.tree x u) (λ x. own_bound x u) (members whole.tree (onto p)) (members own.tree p) (is.same p i)
+      ∙ any_same (λ x. is_boundary (set_boundary whole.set.tasks) whole.tree x u) (λ x. own_bound x u) (members whole.tree (onto p)) (members own.tree p)
+      (is.same p i)
       (λ k l. ap (λ x. is_boundary (set_boundary whole.set.tasks) whole.tree x u) (is.members_are p k i l) ∙ same_under p k u i l under)
       ∙ sym (pack_any (set_boundary own.set.tasks) own.tree o.tree.tree (plan_leaves own o) p u i)
 
@@ -142,5 +150,6 @@ module _ (whole own : PlanContents) (onto : ℕ → ℕ) (f : ℕ) (w : IsPlan w
     where
       go : (u : ℕ) → KindOf (kind_at own.tree x) → its_bound x u ≡ own_bound x u
       go u (inl a_leaf) = same_leaf x u (m.0, a_leaf)
-      go u (inr (inl a_dual)) = same_dual x u (m.0, a_dual) (same_pack (level own.tree (primal own.tree x)) (primal own.tree x) u (o.tree.tree.duals_are x (m.0, a_dual)).0 refl)
+      go u (inr (inl a_dual)) = same_dual x u (m.0, a_dual) (same_pack (level own.tree (primal own.tree x)) (primal own.tree x) u (o.tree.tree.duals_are x
+          (m.0, a_dual)).0 refl)
       go u (inr (inr a_pack)) = absurd (both_ways (is_pack (kind_at own.tree x)) m.1 a_pack)

@@ -38,7 +38,8 @@ module _ (whole own : PlanContents) (onto : ℕ → ℕ) (f : ℕ) (w : IsPlan w
           omega (arith, its_home, low, low', at))
       go (inr (inl a_dual)) =
           (let (q, e, up) = o.tree.tree.duals_are x (m.0.0, a_dual) in
-          let there = w.tree.tree.has_dual (onto (primal own.tree x)) (onto x) (is.packs (primal own.tree x) q) (dual_there whole own onto f w o is (primal own.tree x) x q e) in
+          let there = w.tree.tree.has_dual (onto (primal own.tree x)) (onto x) (is.packs (primal own.tree x) q) (dual_there whole own onto f w o is
+          (primal own.tree x) x q e) in
           let above = (w.tree.tree.duals_are (onto x) there.0).2 in
           let below = ap (level whole.tree) there.1 in
           let at = ap (level own.tree) m.1 in

@@ -1,5 +1,6 @@
 -- A node of a part runs where its like runs in the part's own plan, whose ticks are longer by a factor.
-use Rattle.std.proofs.Common.{Bool, List, None, Option, Some, [], ap, ap₂, arith, get_or, inl, inr, length, ltb, map, mod-lt, mul-le-mul_left, not, refl, subst, suc, sym, zero, ℕ, ◌%◌, ◌&&◌, ◌*◌, ◌+◌, ◌-◌, ◌/◌, ◌<◌, ◌∙◌, ◌∷◌, ◌≡◌, ◌≤◌}
+use Rattle.std.proofs.Common.{Bool, List, None, Option, Some, [], ap, ap₂, arith, get_or, inl, inr, length, ltb, map, mod-lt, mul-le-mul_left, not}
+use Rattle.std.proofs.Common.{refl, subst, suc, sym, zero, ℕ, ◌%◌, ◌&&◌, ◌*◌, ◌+◌, ◌-◌, ◌/◌, ◌<◌, ◌∙◌, ◌∷◌, ◌≡◌, ◌≤◌}
 use Rattle.std.proofs.Math.Nat.{mul-div_cancel_left, mul-mod_right}
 use Rattle.std.proofs.lemmas.Bool.{cases_Bool, cases_eq, le-ltb, lt-ltb}
 use Rattle.sched_base.specs.declared.candidates.Candidate.{Candidate}
@@ -50,7 +51,8 @@ module _ (whole own : PlanContents) (onto : ℕ → ℕ) (f : ℕ) (w : IsPlan w
   own_test x = is_boundary (set_boundary own.set.tasks) own.tree x
 
   -- their windows end in the same unit
-  pub ends_there : (n x : ℕ) → IsMember own.tree x → ends_at (set_boundary whole.set.tasks) whole.tree n (onto x) ≡ ends_at (set_boundary own.set.tasks) own.tree (n / f) x
+  pub ends_there : (n x : ℕ) → IsMember own.tree x → ends_at (set_boundary whole.set.tasks) whole.tree n (onto x) ≡ ends_at (set_boundary own.set.tasks)
+      own.tree (n / f) x
   ends_there n x m =
       ends_is (set_boundary whole.set.tasks) whole.tree (onto x) n
       ∙ ap₂ (λ t v. window_end t v) (same_member whole own onto f w o is x m) (unit_there whole own onto f w o is n)
@@ -66,7 +68,8 @@ module _ (whole own : PlanContents) (onto : ℕ → ℕ) (f : ℕ) (w : IsPlan w
         let u = n / f / own.tree.scale in
         let b = window_begin (own_test x) u in
         let e = window_end (own_test x) u in
-        let early = on_time (set_boundary whole.set.tasks) whole.tree w.tree.tree (plan_leaves whole w) (onto x) n (member_there whole own onto f w o is x m).0 in
+        let early = on_time (set_boundary whole.set.tasks) whole.tree w.tree.tree (plan_leaves whole w) (onto x) n (member_there whole own onto f w o is x
+        m).0 in
         let early' = on_time (set_boundary own.set.tasks) own.tree o.tree.tree (plan_leaves own o) x (n / f) m in
         let here = left_is (set_boundary whole.set.tasks) whole.tree (onto x) n early in
         let there = left_is (set_boundary own.set.tasks) own.tree x (n / f) early' in
@@ -74,7 +77,8 @@ module _ (whole own : PlanContents) (onto : ℕ → ℕ) (f : ℕ) (w : IsPlan w
         let ends : window_end (its_test x) (n / whole.tree.scale) ≡ e = ap₂ (λ t v. window_end t v) test unit in
         let at : window_begin (its_test x) (n / whole.tree.scale) * whole.tree.scale ≡ f * (b * own.tree.scale) =
         ap₂ (λ v s. v * s) begins is.scale ∙ omega arith in
-        let due : rate whole.tree (onto x) * (window_end (its_test x) (n / whole.tree.scale) - window_begin (its_test x) (n / whole.tree.scale)) ≡ f * (rate own.tree x * (e - b)) =
+        let due : rate whole.tree (onto x) * (window_end (its_test x) (n / whole.tree.scale) - window_begin (its_test x) (n / whole.tree.scale)) ≡ f
+        * (rate own.tree x * (e - b)) =
         ap₂ (λ v s. rate whole.tree (onto x) * (v - s)) ends begins ∙ ap (λ r. r * (e - b)) (is.rates x m) ∙ omega arith in
         let now = ticks_scaled (its_run x) (own_run x) f (some_ticks whole own onto f w o is) n (λ v l. before v x l m) in
         let first = ticks_whole x b (λ v l. before v x (omega (arith, l, at, early)) m) in
@@ -114,14 +118,16 @@ module _ (whole own : PlanContents) (onto : ℕ → ℕ) (f : ℕ) (w : IsPlan w
 
     -- so each pack's earliest member stands at the same place
     pub earliest_then : (p : ℕ) → IsPack own.tree p →
-        earliest (listed (ends_at (set_boundary whole.set.tasks) whole.tree n) (left_at (set_boundary whole.set.tasks) whole.tree n) (members whole.tree (onto p)))
+        earliest (listed (ends_at (set_boundary whole.set.tasks) whole.tree n) (left_at (set_boundary whole.set.tasks) whole.tree n)
+        (members whole.tree (onto p)))
         ≡ earliest (listed (ends_at (set_boundary own.set.tasks) own.tree (n / f)) (left_at (set_boundary own.set.tasks) own.tree (n / f)) (members own.tree p))
     earliest_then p i =
         let ends = ends_at (set_boundary whole.set.tasks) whole.tree n in
         let left = left_at (set_boundary whole.set.tasks) whole.tree n in
         ap (λ ms. earliest (listed ends left ms)) (members_there whole own onto f w o is p i)
         ∙ ap (λ cs. earliest cs) (listed_map ends left onto (members own.tree p))
-        ∙ same_earliest (λ x. ends (onto x)) (λ x. left (onto x)) (ends_at (set_boundary own.set.tasks) own.tree (n / f)) (left_at (set_boundary own.set.tasks) own.tree (n / f)) (members own.tree p)
+        ∙ same_earliest (λ x. ends (onto x)) (λ x. left (onto x)) (ends_at (set_boundary own.set.tasks) own.tree (n / f))
+        (left_at (set_boundary own.set.tasks) own.tree (n / f)) (members own.tree p)
         (λ k l. ends_there n (get_or (members own.tree p) k 0) (o.tree.tree.members_are p k i l).0)
         (λ k l. some_alike (get_or (members own.tree p) k 0) (o.tree.tree.members_are p k i l).0)
       where
@@ -160,16 +166,19 @@ module _ (whole own : PlanContents) (onto : ℕ → ℕ) (f : ℕ) (w : IsPlan w
     pack_then zero p i at = absurd (let l = o.tree.tree.leveled p i in omega (arith, l, at))
     pack_then (suc above) p i at = go (pack_then above) (dual own.tree p) refl
       where
-        go : ((q : ℕ) → IsPack own.tree q → level own.tree q + above ≡ own.tree.levels → its_run q n ≡ own_run q (n / f)) → (c : Option ℕ) → dual own.tree p ≡ c → its_run p n ≡ own_run p (n / f)
+        go : ((q : ℕ) → IsPack own.tree q → level own.tree q + above ≡ own.tree.levels → its_run q n ≡ own_run q (n / f)) → (c : Option ℕ) →
+            dual own.tree p ≡ c → its_run p n ≡ own_run p (n / f)
         go ih None e =
-            run_root (set_boundary whole.set.tasks) whole.tree w.tree.tree (plan_leaves whole w) (onto p) n (is.packs p i) (root_there whole own onto f w o is p i e)
+            run_root (set_boundary whole.set.tasks) whole.tree w.tree.tree (plan_leaves whole w) (onto p) n (is.packs p i) (root_there whole own onto f w o
+            is p i e)
             ∙ sym (run_root (set_boundary own.set.tasks) own.tree o.tree.tree (plan_leaves own o) p (n / f) i e)
         go ih (Some d) e =
             (let x = o.tree.tree.has_dual p d i e in
             let m : IsMember own.tree d = (x.0.0, not_pack (kind_at own.tree d) x.0.1) in
             let up = (o.tree.tree.duals_are d x.0).2 in
             let same = ap (level own.tree) x.1 in
-            run_rests (set_boundary whole.set.tasks) whole.tree w.tree.tree (plan_leaves whole w) (onto p) (onto d) n (is.packs p i) (dual_there whole own onto f w o is p d i e)
+            run_rests (set_boundary whole.set.tasks) whole.tree w.tree.tree (plan_leaves whole w) (onto p) (onto d) n (is.packs p i)
+            (dual_there whole own onto f w o is p d i e)
             ∙ ap not (under_then d m (ih (home own.tree d) (o.tree.tree.homes_are d m).0 (omega (arith, up, same, at))))
             ∙ sym (run_rests (set_boundary own.set.tasks) own.tree o.tree.tree (plan_leaves own o) p d (n / f) i e))
 

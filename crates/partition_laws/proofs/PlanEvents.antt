@@ -21,11 +21,13 @@ found_any p (suc n) a e = elim (or_cases (p a) (list_any p (range_with_len (a + 
 
 -- and where one passes, some does
 pub any_found : (p : ℕ → Bool) (n x : ℕ) → x < n → p x ≡ true → list_any p (range_with_len 0 n) ≡ true
-any_found p n x l on = list_any_at p (range_with_len 0 n) x 0 (let c = length-range_with_len 0 n in omega (arith, c, l)) (ap p (get_or-range_with_len 0 n x 0 l ∙ zero-add x) ∙ on)
+any_found p n x l on = list_any_at p (range_with_len 0 n) x 0 (let c = length-range_with_len 0 n in omega (arith, c, l))
+    (ap p (get_or-range_with_len 0 n x 0 l ∙ zero-add x) ∙ on)
 
 -- node x is a task of the plan that has a boundary at tick n
 abbrev pub Begins : PlanContents → ℕ → ℕ → Type 0
-Begins p n x = (n % p.tree.scale ≡ 0) × IsLeaf p.tree x × (is_task (leaf p.tree x) ≡ true) × (set_boundary p.set.tasks (leaf p.tree x) (n / p.tree.scale) ≡ true)
+Begins p n x = (n % p.tree.scale ≡ 0) × IsLeaf p.tree x × (is_task (leaf p.tree x) ≡ true) × (set_boundary p.set.tasks (leaf p.tree x) (n / p.tree.scale)
+    ≡ true)
 
 -- node x is a member that ran at tick n and has nothing left at the next
 abbrev pub Dries : PlanContents → ℕ → ℕ → Type 0
@@ -67,7 +69,8 @@ module _ (p : PlanContents) (n : ℕ) where
       (list_any (λ y. runs_dry b t n y) (range_with_len 0 (length t.nodes)))
       (and_from (eqb (suc n % t.scale) 0) (list_any (λ y. task_begins b t (suc n) y) (range_with_len 0 (length t.nodes))) (eq-eqb (suc n % t.scale) 0 at.0)
       (any_found (λ y. task_begins b t (suc n) y) (length t.nodes) x at.1.0
-      (and_from (is_leaf (kind_at t x) && is_task (leaf t x)) (b (leaf t x) (suc n / t.scale)) (and_from (is_leaf (kind_at t x)) (is_task (leaf t x)) at.1.1 at.2) at.3)))
+      (and_from (is_leaf (kind_at t x) && is_task (leaf t x)) (b (leaf t x) (suc n / t.scale)) (and_from (is_leaf (kind_at t x)) (is_task (leaf t x)) at.1.1
+      at.2) at.3)))
 
   -- and so is the tick after one that leaves a member nothing
   pub dry_event : (x : ℕ) → Dries p n x → is_event (set_boundary p.set.tasks) p.tree (suc n) ≡ true

@@ -1,5 +1,6 @@
 -- What a processor shows alone: the leaf of the one member of its pack that runs; and rounds that are kept.
-use Rattle.std.proofs.Common.{[], ap₂, length-append, mul-le-mul_left, mul-le-mul_right, ◌++◌, ◌^◌, ◌∷◌, Bool, List, None, Option, Some, ap, arith, false, get_or, inl, inr, length, nat_lt, refl, subst, sym, true, ℕ, ◌*◌, ◌+◌, ◌<◌, ◌∙◌, ◌≡◌, ◌≤◌}
+use Rattle.std.proofs.Common.{[], ap₂, length-append, mul-le-mul_left, mul-le-mul_right, ◌++◌, ◌^◌, ◌∷◌, Bool, List, None, Option, Some, ap, arith}
+use Rattle.std.proofs.Common.{false, get_or, inl, inr, length, nat_lt, refl, subst, sym, true, ℕ, ◌*◌, ◌+◌, ◌<◌, ◌∙◌, ◌≡◌, ◌≤◌}
 use Rattle.std.proofs.Math.ListN.{get_or-append}
 use Rattle.std.proofs.Math.Seq.{get_or-append_seam}
 use Rattle.std.proofs.lemmas.Bool.{both_ways, cases_lt}
@@ -164,7 +165,8 @@ module _ (own : PlanContents) (o : IsPlan own) (roots : IsPartitioned own.tree) 
   shown_alone start place l e = some_shown own.set.tasks own.tree.scale start (leaf own.tree (member_of own.tree 0 place)) (real_alone place l) e
 
 -- the node of which a round of the own plan tells runs in it, so what the whole plan shows of it is known
-pub own_round : (own : OwnPlan) → IsPlan own.plan → IsPartitioned own.plan.tree → length (packs_at own.plan.tree 0) ≡ 1 → (start end : ℕ) → IsRoundUpTo own.plan start end →
+pub own_round : (own : OwnPlan) → IsPlan own.plan → IsPartitioned own.plan.tree → length (packs_at own.plan.tree 0) ≡ 1 → (start end : ℕ) →
+    IsRoundUpTo own.plan start end →
     (node : Option NodeId) (shows : Leaf) → IsNodeOn own.plan start end 0 node →
     ((n : NodeId) → node ≡ Some n → shows ≡ get_or own.leaves.items n.0 Empty) →
     IsOwnRound own (start * own.factor) (end * own.factor) shows
@@ -191,7 +193,8 @@ own_round own o roots one start end round (Some n) shows on told =
 -- ---- rounds that are kept
 
 -- the rounds of an own plan end early enough to be counted in ticks of the whole plan
-pub tick_fits : (whole : PlanContents) → IsPlan whole → (own : OwnPlan) (q : ℕ) → IsOwnPlanOf whole q own → (tick : ℕ) → tick ≤ stop_of own.plan → tick * own.factor ≤ 2 ^ 126
+pub tick_fits : (whole : PlanContents) → IsPlan whole → (own : OwnPlan) (q : ℕ) → IsOwnPlanOf whole q own → (tick : ℕ) → tick ≤ stop_of own.plan →
+    tick * own.factor ≤ 2 ^ 126
 tick_fits whole w own q is tick l =
     let f = own.factor in
     let scale = is.own.scale in
@@ -227,7 +230,8 @@ none_kept own kept ends shows =
       each = λ i l. absurd (omega (arith, l, none));
     }
 
-module _ (own : OwnPlan) (kept next : KeptRounds) (start end : ℕ) (leaf : Leaf) (so_far : AreKeptOf own kept) (here : kept_end kept ≡ start) (round : IsOwnRound own start end leaf)
+module _ (own : OwnPlan) (kept next : KeptRounds) (start end : ℕ) (leaf : Leaf) (so_far : AreKeptOf own kept) (here : kept_end kept ≡ start)
+    (round : IsOwnRound own start end leaf)
     (ends_are : next.ends.items ≡ kept.ends.items ++ end ∷ []) (shows_are : next.shows.items ≡ kept.shows.items ++ leaf ∷ []) where
   -- the ends of all rounds, and what is shown in each
   abbrev more_ends : List ℕ
@@ -246,12 +250,14 @@ module _ (own : OwnPlan) (kept next : KeptRounds) (start end : ℕ) (leaf : Leaf
             (let long = so_far.long in
             subst (λ (s : ℕ). IsOwnRound own s (get_or more_ends i 0) (get_or more_shows i Empty)) (sym (start_kept 0 end i ends (omega (arith, low))))
             (subst (λ (e : ℕ). IsOwnRound own (round_start 0 ends i) e (get_or more_shows i Empty)) (sym (get_or-append ends (end ∷ []) 0 i low))
-            (subst (λ (x : Leaf). IsOwnRound own (round_start 0 ends i) (get_or ends i 0) x) (sym (get_or-append shows (leaf ∷ []) Empty i (omega (arith, low, long)))) (so_far.each i low))))
+            (subst (λ (x : Leaf). IsOwnRound own (round_start 0 ends i) (get_or ends i 0) x) (sym (get_or-append shows (leaf ∷ []) Empty i
+            (omega (arith, low, long)))) (so_far.each i low))))
         | inr high ↦
             (let e : length ends ≡ i = omega (arith, l, high) in
             let at_start : round_start 0 more_ends (length ends) ≡ start = start_kept 0 end (length ends) ends (omega arith) ∙ here in
             let at_end : get_or more_ends (length ends) 0 ≡ end = get_or-append_seam ends end [] 0 in
-            let at_leaf : get_or more_shows (length ends) Empty ≡ leaf = ap (λ k. get_or more_shows k Empty) (sym so_far.long) ∙ get_or-append_seam shows leaf [] Empty in
+            let at_leaf : get_or more_shows (length ends) Empty ≡ leaf = ap (λ k. get_or more_shows k Empty) (sym so_far.long) ∙ get_or-append_seam shows
+            leaf [] Empty in
             subst (λ (k : ℕ). IsOwnRound own (round_start 0 more_ends k) (get_or more_ends k 0) (get_or more_shows k Empty)) e
             (subst (λ (s : ℕ). IsOwnRound own s (get_or more_ends (length ends) 0) (get_or more_shows (length ends) Empty)) (sym at_start)
             (subst (λ (n : ℕ). IsOwnRound own start n (get_or more_shows (length ends) Empty)) (sym at_end)

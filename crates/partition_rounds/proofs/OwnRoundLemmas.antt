@@ -1,5 +1,6 @@
 -- The rounds of one processor go on, computed or kept.
-use Rattle.std.proofs.Common.{◌≡◌, ℕ, zero, suc, ◌+◌, ◌*◌, ◌<◌, ◌≤◌, ◌^◌, inl, inr, min, List, [], ◌∷◌, length, get_or, true, false, refl, sym, ap, subst, ◌∙◌, arith, mul-le-mul_right, le_of_lt}
+use Rattle.std.proofs.Common.{◌≡◌, ℕ, zero, suc, ◌+◌, ◌*◌, ◌<◌, ◌≤◌, ◌^◌, inl, inr, min, List, [], ◌∷◌, length, get_or, true, false, refl, sym, ap}
+use Rattle.std.proofs.Common.{subst, ◌∙◌, arith, mul-le-mul_right, le_of_lt}
 use Rattle.std.proofs.Math.Nat.{lt_of_mul-lt-mul_right}
 use Rattle.std.proofs.lemmas.Bool.{cases_lt}
 use Rattle.sched_base.specs.declared.rows.Leaf.{Leaf}
@@ -34,8 +35,10 @@ ticks_same f a b some same = elim (cases_lt a b) [
 -- the earlier of two is the earlier one where ticks are longer
 min_ticks : (f a b : ℕ) → min (a * f) (b * f) ≡ min a b * f
 min_ticks f a b = elim (cases_lt a b) [
-  | inl low ↦ (let m : a * f ≤ b * f = mul-le-mul_right f (le_of_lt low) in let e : a ≡ min a b = omega (arith, low) in let e' = ap (λ n. n * f) e in omega (arith, m, e'))
-  | inr high ↦ (let m : b * f ≤ a * f = mul-le-mul_right f high in let e : b ≡ min a b = omega (arith, high) in let e' = ap (λ n. n * f) e in omega (arith, m, e'))
+  | inl low ↦ (let m : a * f ≤ b * f = mul-le-mul_right f (le_of_lt low) in let e : a ≡ min a b = omega (arith, low) in let e' = ap (λ n. n * f) e in
+      omega (arith, m, e'))
+  | inr high ↦ (let m : b * f ≤ a * f = mul-le-mul_right f high in let e : b ≡ min a b = omega (arith, high) in let e' = ap (λ n. n * f) e in
+      omega (arith, m, e'))
 ]
 
 -- all rounds end at the same time
@@ -47,7 +50,8 @@ stop_own whole q own is =
 
 -- what ends before all rounds does so in either
 pub early_own : (whole : PlanContents) (q : ℕ) (own : OwnPlan) → IsOwnPlanOf whole q own → (n : ℕ) → n * own.factor < stop_of whole → n < stop_of own.plan
-early_own whole q own is n l = let e = stop_own whole q own is in lt_of_mul-lt-mul_right own.factor (let l' : n * own.factor < stop_of own.plan * own.factor = omega (arith, l, e) in l')
+early_own whole q own is n l = let e = stop_own whole q own is in lt_of_mul-lt-mul_right own.factor (let l' : n * own.factor < stop_of
+    own.plan * own.factor = omega (arith, l, e) in l')
 
 -- nor does what ends with them end later in either
 pub within_own : (whole : PlanContents) (q : ℕ) (own : OwnPlan) → IsOwnPlanOf whole q own → (n : ℕ) → n ≤ stop_of own.plan → n * own.factor ≤ stop_of whole
@@ -57,13 +61,15 @@ within_own whole q own is n l =
     omega (arith, m, e)
 
 -- such ticks fit
-pub ticks_fit : (whole : PlanContents) (q : ℕ) (own : OwnPlan) → IsOwnPlanOf whole q own → IsPlan whole → (n : ℕ) → n ≤ stop_of own.plan → n * own.factor < 2 ^ 127
+pub ticks_fit : (whole : PlanContents) (q : ℕ) (own : OwnPlan) → IsOwnPlanOf whole q own → IsPlan whole → (n : ℕ) → n ≤ stop_of own.plan →
+    n * own.factor < 2 ^ 127
 ticks_fit whole q own is w n l = let m = within_own whole q own is n l in let fits = stop_fits whole w in omega (arith, m, fits)
 
 -- ---- what an own plan's core computes
 
 -- a core that moved on computes them on
-pub computed_on : (whole : PlanContents) (q : ℕ) (r : OwnRounds) → IsOwnRoundsOf whole q r → r.replays ≡ false → (core : CoreContents) → IsCoreOf r.own.plan core →
+pub computed_on : (whole : PlanContents) (q : ℕ) (r : OwnRounds) → IsOwnRoundsOf whole q r → r.replays ≡ false → (core : CoreContents) →
+    IsCoreOf r.own.plan core →
     (end : ℕ) (shows : Leaf) → end ≡ core.tick * r.own.factor → IsOwnRoundsOf whole q (record r { core = core; end = end; shows = shows })
 computed_on whole q r b off core belongs end shows at = record {
   own = b.own;
@@ -104,13 +110,15 @@ behind_round : (ends : List ℕ) (i : ℕ) → round_start 0 ends (i + 1) ≡ ge
 behind_round ends i = let e : i + 1 ≡ suc i = omega arith in ap (round_start 0 ends) e
 
 -- what runs in a round runs so many hyperperiods later
-runs_later : (p : PlanContents) → IsPlan p → CanComeRound p → (ticks : ℕ) → AreTurns p ticks → (n : ℕ) → n + ticks < stop_of p → (x : ℕ) → x < length p.tree.nodes →
+runs_later : (p : PlanContents) → IsPlan p → CanComeRound p → (ticks : ℕ) → AreTurns p ticks → (n : ℕ) → n + ticks < stop_of p → (x : ℕ) →
+    x < length p.tree.nodes →
     runs_at p x (n + ticks) ≡ runs_at p x n
 runs_later p h can ticks turns n l x in_tree =
     ap (λ d. runs_at p x (n + d)) turns.are
     ∙ runs_again p.set.tasks p.tree turns.units 0 (recurs p h can ticks turns n l) n x (omega arith) (early p h can ticks turns n l) in_tree
 
-module _ (whole : PlanContents) (q : ℕ) (r : OwnRounds) (b : IsOwnRoundsOf whole q r) (on : r.replays ≡ true) (soon : r.end < stop_of whole) (h : IsPlan r.own.plan) where
+module _ (whole : PlanContents) (q : ℕ) (r : OwnRounds) (b : IsOwnRoundsOf whole q r) (on : r.replays ≡ true) (soon : r.end < stop_of whole)
+    (h : IsPlan r.own.plan) where
   -- how they come again
   abbrev again : AreAgain r
   again = b.again on
@@ -165,7 +173,8 @@ module _ (whole : PlanContents) (q : ℕ) (r : OwnRounds) (b : IsOwnRoundsOf who
   -- in it runs what runs in the kept one
   runs_own : runs_at r.own.plan (member_of r.own.plan.tree 0 kept.place) (kept.first + again.past) ≡ true
   runs_own = elim again.shifts [
-    | inl none ↦ (let e : kept.first + again.past ≡ kept.first = omega (arith, none) in ap (runs_at r.own.plan (member_of r.own.plan.tree 0 kept.place)) e ∙ kept.runs)
+    | inl none ↦ (let e : kept.first + again.past ≡ kept.first = omega (arith, none) in ap (runs_at r.own.plan (member_of r.own.plan.tree 0 kept.place)) e
+        ∙ kept.runs)
     | inr turns ↦
         (let t = r.own.plan.tree in
         let one = b.own.own.one in
@@ -256,7 +265,8 @@ module _ (whole : PlanContents) (q : ℕ) (r : OwnRounds) (b : IsOwnRoundsOf who
     }
 
     -- and behind the last one the first again
-    pub again_first : (r.next + 1 < length r.kept.ends.items → ⊥) → IsOwnRoundsOf whole q (record r { next = 0; shift = r.shift + r.turn; end = end; shows = shows })
+    pub again_first : (r.next + 1 < length r.kept.ends.items → ⊥) →
+        IsOwnRoundsOf whole q (record r { next = 0; shift = r.shift + r.turn; end = end; shows = shows })
     again_first all = record {
       own = b.own;
       stop = b.stop;
@@ -284,8 +294,10 @@ module _ (whole : PlanContents) (q : ℕ) (r : OwnRounds) (b : IsOwnRoundsOf who
     }
 
 -- they begin again at tick 0
-pub again_begins : (whole : PlanContents) (q : ℕ) (r : OwnRounds) → IsOwnPlanOf whole q r.own → IsPlan r.own.plan → CanComeRound r.own.plan → (turn : ℕ) → AreTurns r.own.plan turn →
-    AreKeptOf r.own r.kept → kept_end r.kept ≡ turn * r.own.factor → r.replays ≡ true → r.next ≡ 0 → r.shift ≡ 0 → r.turn ≡ turn * r.own.factor → r.stop ≡ stop_of whole → r.end ≡ 0 →
+pub again_begins : (whole : PlanContents) (q : ℕ) (r : OwnRounds) → IsOwnPlanOf whole q r.own → IsPlan r.own.plan → CanComeRound r.own.plan → (turn : ℕ) →
+    AreTurns r.own.plan turn →
+    AreKeptOf r.own r.kept → kept_end r.kept ≡ turn * r.own.factor → r.replays ≡ true → r.next ≡ 0 → r.shift ≡ 0 → r.turn ≡ turn * r.own.factor →
+    r.stop ≡ stop_of whole → r.end ≡ 0 →
     IsOwnRoundsOf whole q r
 again_begins whole q r own h can turn turns kept kept_is on next shift turn_is stop end = record {
   own = own;

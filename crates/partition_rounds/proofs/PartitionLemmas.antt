@@ -1,5 +1,7 @@
 -- The rounds of a partitioned plan, cut at the ends of the rounds of its processors.
-use Rattle.std.proofs.Common.{◌≡◌, ℕ, zero, suc, ◌+◌, ◌*◌, ◌%◌, ◌/◌, ◌<◌, ◌≤◌, ◌^◌, ◌⊎◌, ◌∙◌, ◌-◌, ◌∷◌, ◌++◌, [], inl, inr, Bool, true, false, List, length, length-set, get_or, get_or-set_other, get_or-set_same, min, set, slice_get, Option, None, Some, refl, sym, ap, subst, arith, div-add-mod', mul-le-mul_right, le_of_lt}
+use Rattle.std.proofs.Common.{◌≡◌, ℕ, zero, suc, ◌+◌, ◌*◌, ◌%◌, ◌/◌, ◌<◌, ◌≤◌, ◌^◌, ◌⊎◌, ◌∙◌, ◌-◌, ◌∷◌, ◌++◌, [], inl, inr, Bool, true, false, List}
+use Rattle.std.proofs.Common.{length, length-set, get_or, get_or-set_other, get_or-set_same, min, set, slice_get, Option, None, Some, refl, sym, ap}
+use Rattle.std.proofs.Common.{subst, arith, div-add-mod', mul-le-mul_right, le_of_lt}
 use Rattle.std.specs.List.{AllByRecursion}
 use Rattle.std.proofs.Math.Nat.{lt_of_mul-lt-mul_right, mul-div_cancel, mul-mod_left}
 use Rattle.std.proofs.lemmas.Bool.{both_ways, cases_Bool, cases_eq, cases_lt, le-ltb}
@@ -46,7 +48,8 @@ none_waits (t ∷ tasks) all scale (suc j) = none_waits tasks all.1 scale j
 shown_as_is : (tasks : List Task) → AllByRecursion (λ t. t.offset ≡ 0) tasks → (scale start : ℕ) (l : Leaf) → shown tasks scale start l ≡ l
 shown_as_is tasks all scale start (task_leaf id) =
     let w = none_waits tasks all scale id.0 in
-    ap (λ (b : Bool). elim b as (λ y. Leaf) [ true ↦ wait_leaf id | false ↦ task_leaf id ]) (le-ltb start ((task_at tasks id.0).offset * scale) (omega (arith, w)))
+    ap (λ (b : Bool). elim b as (λ y. Leaf) [ true ↦ wait_leaf id | false ↦ task_leaf id ]) (le-ltb start ((task_at tasks id.0).offset * scale)
+    (omega (arith, w)))
 shown_as_is tasks all scale start (wait_leaf id) = refl
 shown_as_is tasks all scale start (idle_leaf number) = refl
 shown_as_is tasks all scale start Empty = refl
@@ -54,7 +57,8 @@ shown_as_is tasks all scale start Empty = refl
 -- ---- within a round the same members run
 
 -- a node runs at all ticks of a round, if it does at the first
-same_until : (p : PlanContents) → IsPlan p → (first last x k : ℕ) → IsRoundUpTo p first last → x < length p.tree.nodes → first + k < last → runs_at p x (first + k) ≡ runs_at p x first
+same_until : (p : PlanContents) → IsPlan p → (first last x k : ℕ) → IsRoundUpTo p first last → x < length p.tree.nodes → first + k < last →
+    runs_at p x (first + k) ≡ runs_at p x first
 same_until p h first last x zero r l below = ap (runs_at p x) (let e : first + 0 ≡ first = omega arith in e)
 same_until p h first last x (suc k) r l below =
     let most : p.set.horizon * p.tree.scale ≤ 2 ^ 32 * p.tree.scale = mul-le-mul_right p.tree.scale (le_of_lt h.lawful.horizon_fits) in
@@ -66,7 +70,8 @@ same_until p h first last x (suc k) r l below =
     ∙ same_until p h first last x k r l (omega (arith, below))
 
 -- so at each tick of the round
-same_within : (p : PlanContents) → IsPlan p → (first last x n : ℕ) → IsRoundUpTo p first last → x < length p.tree.nodes → first ≤ n → n < last → runs_at p x n ≡ runs_at p x first
+same_within : (p : PlanContents) → IsPlan p → (first last x n : ℕ) → IsRoundUpTo p first last → x < length p.tree.nodes → first ≤ n → n < last →
+    runs_at p x n ≡ runs_at p x first
 same_within p h first last x n r l low high =
     let e : first + (n - first) ≡ n = omega (arith, low) in
     subst (λ (m : ℕ). runs_at p x m ≡ runs_at p x first) e (same_until p h first last x (n - first) r l (omega (arith, e, high)))
@@ -115,7 +120,8 @@ module _ (whole : PlanContents) (w : IsPlan whole) (roots : IsPartitioned whole.
   same_stop =
       let h = is.own.horizon in
       let s = is.own.scale in
-      let e : whole.set.horizon * whole.tree.scale ≡ own.plan.set.horizon * (own.factor * own.plan.tree.scale) = ap (λ u. u * whole.tree.scale) h ∙ ap (λ v. own.plan.set.horizon * v) s in
+      let e : whole.set.horizon * whole.tree.scale ≡ own.plan.set.horizon * (own.factor * own.plan.tree.scale) = ap (λ u. u * whole.tree.scale) h
+      ∙ ap (λ v. own.plan.set.horizon * v) s in
       omega (arith, e)
 
   -- an event of the own plan is one of the whole plan
@@ -148,7 +154,8 @@ module _ (whole : PlanContents) (w : IsPlan whole) (roots : IsPartitioned whole.
       omega (arith, e, b, m, f)
 
   -- an event between its ends is none of the own plan
-  pub quiet_own : (start end n : ℕ) (shows : Leaf) → IsOwnRound own start end shows → start < n → n < end → n % own.factor ≡ 0 → event_at own.plan (n / own.factor) ≡ false
+  pub quiet_own : (start end n : ℕ) (shows : Leaf) → IsOwnRound own start end shows → start < n → n < end → n % own.factor ≡ 0 →
+      event_at own.plan (n / own.factor) ≡ false
   quiet_own start end n shows r low high z =
       let d = div-add-mod' n own.factor in
       let b = r.start_is in
@@ -158,7 +165,8 @@ module _ (whole : PlanContents) (w : IsPlan whole) (roots : IsPartitioned whole.
       (lt_of_mul-lt-mul_right own.factor (omega (arith, d, e, high, z)))
 
   -- What the processor shows in a round of the whole plan that begins in a round of the own plan.
-  pub shows_in : (start end from to : ℕ) (shows : Leaf) (none : Row) → IsOwnRound own start end shows → start ≤ from → from < end → leaf_at whole from to q none ≡ shows
+  pub shows_in : (start end from to : ℕ) (shows : Leaf) (none : Row) → IsOwnRound own start end shows → start ≤ from → from < end → leaf_at whole from to q
+      none ≡ shows
   shows_in start end from to shows none r low high =
       let b = r.start_is in
       let e = r.end_is in
@@ -186,7 +194,8 @@ module _ (whole : PlanContents) (w : IsPlan whole) (roots : IsPartitioned whole.
   ]
 
   -- so the processor shows the same in both
-  pub going_shows : (from tick end : ℕ) (shows : Leaf) (none : Row) → IsGoing own tick end shows → IsRoundUpTo whole from tick → leaf_at whole from tick q none ≡ shows
+  pub going_shows : (from tick end : ℕ) (shows : Leaf) (none : Row) → IsGoing own tick end shows → IsRoundUpTo whole from tick → leaf_at whole from tick q
+      none ≡ shows
   going_shows from tick end shows none g round =
       let a = g.after in
       let u = round.above in
@@ -298,7 +307,14 @@ module _ (whole : PlanContents) (now n : ℕ) (old new : Moving) (moved : AreMov
           | inl sooner ↦ inr (n, lane', omega arith, this_lane, omega (arith, sooner))
           | inr not_sooner ↦ (let m : min new.end lane'.end ≡ new.end = omega (arith, not_sooner) in elim moved.end.is [
             | inl all ↦ inl (m ∙ all)
-            | inr some ↦ inr (some.0, some.1, (let l = some.2 in omega (arith, l)), (other_lane some.0 (let l = some.2 in λ e. omega (arith, e, l)) ∙ some.3), m ∙ some.4)
+            | inr some ↦ inr (
+              some.0,
+              some.1,
+              (let l = some.2 in omega (arith, l)),
+              (other_lane some.0 (let l = some.2 in λ e. omega (arith, e, l))
+                  ∙ some.3),
+              m ∙ some.4,
+            )
           ])
         ];
       }
@@ -316,7 +332,8 @@ module _ (whole : PlanContents) (now n : ℕ) (old new : Moving) (moved : AreMov
   now_lane r is = (let e : Some r ≡ Some lane' = sym is ∙ this_lane in cc)
 
   -- what stands of a lane that moved before still does
-  moved_before : (told' : List ℕ) (leaves' : List (Option Leaf)) (count' k : ℕ) (was r : OwnRounds) → get_or leaves' k None ≡ get_or new.leaves k None → (IsTold new.told new.count k → IsTold told' count' k) →
+  moved_before : (told' : List ℕ) (leaves' : List (Option Leaf)) (count' k : ℕ) (was r : OwnRounds) → get_or leaves' k None ≡ get_or new.leaves k None →
+      (IsTold new.told new.count k → IsTold told' count' k) →
       IsMoved whole k now was r new.told old.leaves new.leaves new.count → IsMoved whole k now was r told' old.leaves leaves' count'
   moved_before told' leaves' count' k was r same still m = record {
     belongs = m.belongs;
@@ -328,7 +345,8 @@ module _ (whole : PlanContents) (now n : ℕ) (old new : Moving) (moved : AreMov
   }
 
   -- one lane more, which moved on
-  pub moved_gone : (told' : List ℕ) (leaves' : List (Option Leaf)) (count' : ℕ) → n < length new.leaves → new.count < length new.told → HasGone n now lane' new.told told' new.leaves leaves' new.count count' →
+  pub moved_gone : (told' : List ℕ) (leaves' : List (Option Leaf)) (count' : ℕ) → n < length new.leaves → new.count < length new.told →
+      HasGone n now lane' new.told told' new.leaves leaves' new.count count' →
       AreMoved whole now (n + 1) old (record { lanes = set new.lanes n lane'; told = told'; leaves = leaves'; count = count'; end = min new.end lane'.end })
   moved_gone told' leaves' count' in_leaves room g =
       let few = moved.few in
@@ -352,7 +370,8 @@ module _ (whole : PlanContents) (now n : ℕ) (old new : Moving) (moved : AreMov
               (let was' = was_lane was (sym (ap (slice_get old.lanes) same) ∙ is) in
               let r' = now_lane r (sym (ap (slice_get (set new.lanes n lane')) same) ∙ now_is) in
               let P : ℕ → OwnRounds → OwnRounds → Type 0 = λ j w x. IsMoved whole j now w x told' old.leaves leaves' count' in
-              subst (λ (j : ℕ). P j was r) (sym same) (subst (λ (x : OwnRounds). P n was x) (sym r') (subst (λ (w : OwnRounds). P n w lane') (sym was') (record {
+              subst (λ (j : ℕ). P j was r) (sym same) (subst (λ (x : OwnRounds). P n was x) (sym r') (subst (λ (w : OwnRounds). P n w lane') (sym was')
+              (record {
                 belongs = belongs;
                 own = own;
                 how = inl (record {
@@ -371,7 +390,8 @@ module _ (whole : PlanContents) (now n : ℕ) (old new : Moving) (moved : AreMov
       }
 
   -- one lane more, whose round goes on
-  pub moved_stayed : (told' : List ℕ) (leaves' : List (Option Leaf)) (count' : ℕ) → (lane.end ≡ now → ⊥) → HasStayed lane lane' new.told told' new.leaves leaves' new.count count' →
+  pub moved_stayed : (told' : List ℕ) (leaves' : List (Option Leaf)) (count' : ℕ) → (lane.end ≡ now → ⊥) → HasStayed lane lane' new.told told' new.leaves
+      leaves' new.count count' →
       AreMoved whole now (n + 1) old (record { lanes = set new.lanes n lane'; told = told'; leaves = leaves'; count = count'; end = min new.end lane'.end })
   moved_stayed told' leaves' count' later g =
       let few = moved.few in
@@ -392,7 +412,8 @@ module _ (whole : PlanContents) (now n : ℕ) (old new : Moving) (moved : AreMov
               (let was' = was_lane was (sym (ap (slice_get old.lanes) same) ∙ is) in
               let r' = now_lane r (sym (ap (slice_get (set new.lanes n lane')) same) ∙ now_is) in
               let P : ℕ → OwnRounds → OwnRounds → Type 0 = λ j w x. IsMoved whole j now w x told' old.leaves leaves' count' in
-              subst (λ (j : ℕ). P j was r) (sym same) (subst (λ (x : OwnRounds). P n was x) (sym r') (subst (λ (w : OwnRounds). P n w lane') (sym was') (record {
+              subst (λ (j : ℕ). P j was r) (sym same) (subst (λ (x : OwnRounds). P n was x) (sym r') (subst (λ (w : OwnRounds). P n w lane') (sym was')
+              (record {
                 belongs = belongs;
                 own = own;
                 how = inr (record { later = later; same = g.same; shows = leaf_as n ∙ moved.rest_leaves n (omega arith) });
@@ -413,7 +434,8 @@ pub record AreLanesAt (whole : PlanContents) (lanes : List OwnRounds) (tick : �
   pub going : (q : ℕ) (r : OwnRounds) → slice_get lanes q ≡ Some r → ((tick ≡ 0) × (r.end ≡ 0)) ⊎ IsGoing r.own tick r.end r.shows
 
 module _ (whole : PlanContents) (w : IsPlan whole) (roots : IsPartitioned whole.tree) (on_time : AllByRecursion (λ t. t.offset ≡ 0) whole.set.tasks)
-    (tick : ℕ) (old new : Moving) (are : AreLanesAt whole old.lanes tick) (moved : AreMoved whole tick (length old.lanes) old new) (early : tick < stop_of whole) (begins : IsRoundStart whole tick) where
+    (tick : ℕ) (old new : Moving) (are : AreLanesAt whole old.lanes tick) (moved : AreMoved whole tick (length old.lanes) old new) (early : tick < stop_of
+    whole) (begins : IsRoundStart whole tick) where
   -- a lane, as it was and as it is
   pub record IsLane (q : ℕ) (was lane : OwnRounds) : Type 0 where
     pub was_at : slice_get old.lanes q ≡ Some was
@@ -441,7 +463,8 @@ module _ (whole : PlanContents) (w : IsPlan whole) (roots : IsPartitioned whole.
   ])
 
   -- each lane is in a round that began at this tick or before, and goes on
-  in_round : (q : ℕ) (was lane : OwnRounds) → IsLane q was lane → (start : ℕ) × (start ≤ tick) × (tick < lane.end) × IsOwnRound lane.own start lane.end lane.shows
+  in_round : (q : ℕ) (was lane : OwnRounds) → IsLane q was lane → (start : ℕ) × (start ≤ tick) × (tick < lane.end) × IsOwnRound lane.own start lane.end
+      lane.shows
   in_round q was lane is = elim is.step.how [
     | inl due ↦ (tick, omega arith, goes_on whole w roots on_time q lane.own is.plan is.step.belongs.own tick lane.end lane.shows due.round, due.round)
     | inr on ↦
@@ -485,7 +508,8 @@ module _ (whole : PlanContents) (w : IsPlan whole) (roots : IsPartitioned whole.
         let r = (in_round some.0 l.0 some.1 l.1).3 in
         let e : new.end ≡ r.last * some.1.own.factor = some.4 ∙ r.end_is in
         let up = later in
-        subst (λ (n : ℕ). IsRoundStart whole n) (sym e) (own_begins whole w roots on_time some.0 some.1.own l.1.plan l.1.step.belongs.own r.last (omega (arith, e, up)) r.round.last))
+        subst (λ (n : ℕ). IsRoundStart whole n) (sym e) (own_begins whole w roots on_time some.0 some.1.own l.1.plan l.1.step.belongs.own r.last
+        (omega (arith, e, up)) r.round.last))
   ]
 
   -- there is a lane for each pack of level 0
@@ -496,14 +520,16 @@ module _ (whole : PlanContents) (w : IsPlan whole) (roots : IsPartitioned whole.
   quiet_now : (none : OwnRounds) (some : IsPlan none.own.plan) (n : ℕ) → tick < n → n < new.end → event_at whole n ≡ false
   quiet_now none some n low high =
       event_of_none whole (λ i. (get_or new.lanes i none).own.plan) (λ i. (get_or new.lanes i none).own.factor) w lawful roots
-      (λ i l. (let at = slice_get-get_or new.lanes i none (lane_of i l) in (lane_now i (get_or new.lanes i none) at).1.step.belongs.own.own)) n (omega (arith, low))
+      (λ i l. (let at = slice_get-get_or new.lanes i none (lane_of i l) in (lane_now i (get_or new.lanes i none) at).1.step.belongs.own.own)) n
+      (omega (arith, low))
       (λ i l z.
       let lane = get_or new.lanes i none in
       let at = slice_get-get_or new.lanes i none (lane_of i l) in
       let (was, is) = lane_now i lane at in
       let (start, before, after, round) = in_round i was lane is in
       let least = moved.end.least i lane (let a = is.on in a) at in
-      quiet_own whole w roots on_time i lane.own is.plan is.step.belongs.own start lane.end n lane.shows round (omega (arith, before, low)) (omega (arith, least, high)) z)
+      quiet_own whole w roots on_time i lane.own is.plan is.step.belongs.own start lane.end n lane.shows round (omega (arith, before, low))
+      (omega (arith, least, high)) z)
     where
       lawful : (i : ℕ) → IsPlan (get_or new.lanes i none).own.plan
       lawful i = elim (cases_lt i (length new.lanes)) [
@@ -532,7 +558,8 @@ module _ (whole : PlanContents) (w : IsPlan whole) (roots : IsPartitioned whole.
       shows_in whole w roots on_time q lane.own is.plan is.step.belongs.own start lane.end tick new.end lane.shows none round before after
 
   -- and before, where it goes on
-  shown_before : (q start : ℕ) (was lane : OwnRounds) (none : Row) → IsLane q was lane → GoesOn q tick was lane old.leaves new.leaves → IsRoundUpTo whole start tick →
+  shown_before : (q start : ℕ) (was lane : OwnRounds) (none : Row) → IsLane q was lane → GoesOn q tick was lane old.leaves new.leaves →
+      IsRoundUpTo whole start tick →
       leaf_at whole start tick q none ≡ lane.shows
   shown_before q start was lane none is on round =
       going_shows whole w roots on_time q lane.own is.plan is.step.belongs.own start tick lane.end lane.shows none (old_going q was lane is on) round
@@ -549,10 +576,12 @@ module _ (whole : PlanContents) (w : IsPlan whole) (roots : IsPartitioned whole.
       (lane, r.0, r.1)
 
   -- of each it is told what it shows
-  pub all_now : length old.leaves ≡ whole.tree.processors → ((start : ℕ) → IsRoundUpTo whole start tick → IsAllTold whole start tick old.leaves) → IsAllTold whole tick new.end new.leaves
+  pub all_now : length old.leaves ≡ whole.tree.processors → ((start : ℕ) → IsRoundUpTo whole start tick → IsAllTold whole start tick old.leaves) →
+      IsAllTold whole tick new.end new.leaves
   all_now many before = record {
     long = moved.long_leaves ∙ many;
-    each = λ q none l. (let (lane, was, is) = lane_on q none l in known q was lane none l is is.step.how ∙ ap (λ (x : Leaf). Some x) (sym (shows_now q was lane none is)));
+    each = λ q none l. (let (lane, was, is) = lane_on q none l in known q was lane none l is is.step.how ∙ ap (λ (x : Leaf). Some x)
+        (sym (shows_now q was lane none is)));
   }
     where
       known : (q : ℕ) (was lane : OwnRounds) (none : Row) → q < whole.tree.processors → IsLane q was lane →
@@ -602,18 +631,21 @@ module _ (whole : PlanContents) (w : IsPlan whole) (roots : IsPartitioned whole.
 pub record HasGoneOn (whole : PlanContents) (old new : Moving) (start : ℕ) : Type 0 where
   pub round : IsRoundUpTo whole start new.end
   pub lanes : AreLanesAt whole new.lanes new.end
-  pub all : length old.leaves ≡ whole.tree.processors → ((from : ℕ) → IsRoundUpTo whole from start → IsAllTold whole from start old.leaves) → IsAllTold whole start new.end new.leaves
+  pub all : length old.leaves ≡ whole.tree.processors → ((from : ℕ) → IsRoundUpTo whole from start → IsAllTold whole from start old.leaves) →
+      IsAllTold whole start new.end new.leaves
   pub others : (q from : ℕ) (none : Row) → q < whole.tree.processors → (IsTold new.told new.count q → ⊥) → IsRoundUpTo whole from start →
       leaf_at whole start new.end q none ≡ leaf_at whole from start q none
   pub first : (none : Row) → start ≡ 0 → (q : ℕ) → q < whole.tree.processors → IsTold new.told new.count q
 
 -- so they did, where each did
-pub gone_on : (whole : PlanContents) → IsPlan whole → (part : Partition) → IsPartitionOf whole part → part.tick < stop_of whole → (old new : Moving) (n : ℕ) → old.lanes ≡ part.lanes.items → n ≡ length old.lanes → AreMoved whole part.tick n old new →
+pub gone_on : (whole : PlanContents) → IsPlan whole → (part : Partition) → IsPartitionOf whole part → part.tick < stop_of whole → (old new : Moving) (n : ℕ)
+    → old.lanes ≡ part.lanes.items → n ≡ length old.lanes → AreMoved whole part.tick n old new →
     HasGoneOn whole old new part.tick
 gone_on whole w part p early old new n same all moved_n =
     let tick = part.tick in
     let moved : AreMoved whole tick (length old.lanes) old new = subst (λ (m : ℕ). AreMoved whole tick m old new) all moved_n in
-    let are : AreLanesAt whole old.lanes tick = subst (λ (lanes : List OwnRounds). AreLanesAt whole lanes tick) (sym same) (record { many = p.many; each = p.each; lawful = p.lawful; going = p.going }) in record {
+    let are : AreLanesAt whole old.lanes tick = subst (λ (lanes : List OwnRounds). AreLanesAt whole lanes tick) (sym same)
+    (record { many = p.many; each = p.each; lawful = p.lawful; going = p.going }) in record {
       round = round_now whole w p.partitioned p.on_time tick old new are moved early p.event;
       lanes = lanes_now whole w p.partitioned p.on_time tick old new are moved early p.event;
       all = all_now whole w p.partitioned p.on_time tick old new are moved early p.event;
@@ -631,10 +663,15 @@ pub record AreFirst (whole : PlanContents) (lanes : List OwnRounds) : Type 0 whe
 
 -- none is
 pub no_lane : (whole : PlanContents) → AreFirst whole []
-no_lane whole = record { each = λ q r at. absurd (let e : None ≡ Some r = at in cc); lawful = λ q r at. absurd (let e : None ≡ Some r = at in cc); begin = λ q r at. absurd (let e : None ≡ Some r = at in cc) }
+no_lane whole = record {
+  each = λ q r at. absurd (let e : None ≡ Some r = at in cc);
+  lawful = λ q r at. absurd (let e : None ≡ Some r = at in cc);
+  begin = λ q r at. absurd (let e : None ≡ Some r = at in cc);
+}
 
 -- and so they are with that of the next
-pub one_lane : (whole : PlanContents) (lanes : List OwnRounds) (next : OwnRounds) → AreFirst whole lanes → IsOwnRoundsOf whole (length lanes) next → IsPlan next.own.plan → next.end ≡ 0 → AreFirst whole (lanes ++ next ∷ [])
+pub one_lane : (whole : PlanContents) (lanes : List OwnRounds) (next : OwnRounds) → AreFirst whole lanes → IsOwnRoundsOf whole (length lanes) next →
+    IsPlan next.own.plan → next.end ≡ 0 → AreFirst whole (lanes ++ next ∷ [])
 one_lane whole lanes next are is lawful zero_end = record {
   each = λ q r at. elim (slice_get-push lanes next r q at) [
     | inl before ↦ are.each q r before.1
@@ -651,7 +688,8 @@ one_lane whole lanes next are is lawful zero_end = record {
 }
 
 -- so those of all processors are a partition
-pub first_partition : (whole : PlanContents) → IsPlan whole → (part : Partition) → IsPartitioned whole.tree → AllByRecursion (λ t. t.offset ≡ 0) whole.set.tasks → part.tick ≡ 0 → length part.lanes.items ≡ length (packs_at whole.tree 0) →
+pub first_partition : (whole : PlanContents) → IsPlan whole → (part : Partition) → IsPartitioned whole.tree → AllByRecursion (λ t. t.offset ≡ 0)
+    whole.set.tasks → part.tick ≡ 0 → length part.lanes.items ≡ length (packs_at whole.tree 0) →
     AreFirst whole part.lanes.items → IsPartitionOf whole part
 first_partition whole w part roots on_time first many are = record {
   partitioned = roots;

@@ -1,5 +1,6 @@
 -- Rounds that come again, in the table of the rounds so far.
-use Rattle.std.proofs.Common.{◌≡◌, ◌≢◌, inl, inr, ℕ, zero, suc, ◌+◌, ◌-◌, ◌*◌, ◌<◌, ◌≤◌, min, true, false, List, [], ◌∷◌, ◌++◌, Some, None, length, get_or, set, refl, sym, ap, ◌∙◌, subst, arith, mul-le-mul_right}
+use Rattle.std.proofs.Common.{◌≡◌, ◌≢◌, inl, inr, ℕ, zero, suc, ◌+◌, ◌-◌, ◌*◌, ◌<◌, ◌≤◌, min, true, false, List, [], ◌∷◌, ◌++◌, Some, None, length}
+use Rattle.std.proofs.Common.{get_or, set, refl, sym, ap, ◌∙◌, subst, arith, mul-le-mul_right}
 use Rattle.std.specs.Prelude.{◌==◌, slice_get}
 use Rattle.std.proofs.lemmas.Bool.{cases_eq}
 use Rattle.std.proofs.lemmas.List.{ext_get_or, get_or_default}
@@ -47,24 +48,29 @@ slice_get-set_other (y ∷ xs) (suc i) zero x other = refl
 slice_get-set_other (y ∷ xs) (suc i) (suc j) x other = slice_get-set_other xs i j x (λ same. other (ap suc same))
 
 -- the row of a round that a table has more
-pub new_row : (lanes : List (List Row)) (rows : List Row) (q : ℕ) (r : Row) → q < length lanes → slice_get rows q ≡ Some r → RowAt (with_round lanes rows) q (length (lane_of lanes q)) r
+pub new_row : (lanes : List (List Row)) (rows : List Row) (q : ℕ) (r : Row) → q < length lanes → slice_get rows q ≡ Some r → RowAt (with_round lanes rows) q
+    (length (lane_of lanes q)) r
 new_row [] rows q r within at = absurd (omega (arith, within))
 new_row (lane ∷ lanes) [] q r within at = absurd (let e : None ≡ Some r = at in cc)
-new_row (lane ∷ lanes) (s ∷ rows) zero r within at = let e : Some s ≡ Some r = at in let same : s ≡ r = cc in subst (λ (x : Row). slice_get (lane ++ s ∷ []) (length lane) ≡ Some x) same (slice_get-new lane s)
+new_row (lane ∷ lanes) (s ∷ rows) zero r within at = let e : Some s ≡ Some r = at in let same : s ≡ r = cc in subst (λ (x : Row). slice_get (lane ++ s ∷ [])
+    (length lane) ≡ Some x) same (slice_get-new lane s)
 new_row (lane ∷ lanes) (s ∷ rows) (suc q) r within at = new_row lanes rows q r (omega (arith, within)) at
 
 module _ (p : PlanContents) (h : IsPlan p) where
   -- a row of the first rounds is one of all
-  pub row_of_plan : (n : ℕ) → IsRoundStart p n → n ≤ stop_of p → (q k : ℕ) (r : Row) → q < p.tree.processors → RowAt (lanes_at p n) q k r → RowAt (plan_rows p) q k r
+  pub row_of_plan : (n : ℕ) → IsRoundStart p n → n ≤ stop_of p → (q k : ℕ) (r : Row) → q < p.tree.processors → RowAt (lanes_at p n) q k r →
+      RowAt (plan_rows p) q k r
   row_of_plan n begins below q k r within at =
       let (rest, ahead) = rows_ahead p h n begins below in
       let here : lane_of (lanes_at p n) q ≡ rows_on q (rows_before p n) = lane_of-lanes_of p.tree.processors (rows_before p n) q within in
       let lane : lane_of (plan_rows p) q ≡ lane_of (lanes_at p n) q ++ rows_on q rest =
-      lane_of-lanes_of p.tree.processors (schedule_of p) q within ∙ ap (rows_on q) ahead ∙ filter-append (λ x. x.processor == q) (rows_before p n) rest ∙ ap (λ rows. rows ++ rows_on q rest) (sym here) in
+      lane_of-lanes_of p.tree.processors (schedule_of p) q within ∙ ap (rows_on q) ahead ∙ filter-append (λ x. x.processor == q) (rows_before p n) rest
+      ∙ ap (λ rows. rows ++ rows_on q rest) (sym here) in
       subst (λ (rows : List Row). slice_get rows k ≡ Some r) (sym lane) (slice_get-append (lane_of (lanes_at p n) q) (rows_on q rest) k r at)
 
   -- in a round's place stand its rows
-  row_in : (start end n : ℕ) → IsRoundUpTo p start end → IsRoundStart p n → n ≤ stop_of p → (q : ℕ) (r : Row) → q < p.tree.processors → RowAt (lanes_at p n) q (rounds_before p start) r
+  row_in : (start end n : ℕ) → IsRoundUpTo p start end → IsRoundStart p n → n ≤ stop_of p → (q : ℕ) (r : Row) → q < p.tree.processors →
+      RowAt (lanes_at p n) q (rounds_before p start) r
       → slice_get (rows_of_round p start end) q ≡ Some r
   row_in start end n round begins within q r inside at =
       let m = p.tree.processors in
@@ -79,7 +85,8 @@ module _ (p : PlanContents) (h : IsPlan p) where
       let is : slice_get rows q ≡ Some here = slice_get-get_or rows q no_row (omega (arith, wide, inside)) in
       let there = new_row (lanes_at p start) rows q here (omega (arith, inside, many)) is in
       let of_end : RowAt (lanes_at p end) q (rounds_before p start) here =
-      subst (λ (ls : List (List Row)). RowAt ls q (rounds_before p start) here) (sym (next_lanes p h start end round)) (subst (λ n. RowAt (with_round (lanes_at p start) rows) q n here) long there) in
+      subst (λ (ls : List (List Row)). RowAt ls q (rounds_before p start) here) (sym (next_lanes p h start end round))
+      (subst (λ n. RowAt (with_round (lanes_at p start) rows) q n here) long there) in
       let all = row_of_plan end round.last low q (rounds_before p start) here inside of_end in
       let all' = row_of_plan n begins within q (rounds_before p start) r inside at in
       let e : Some here ≡ Some r = sym all ∙ all' in
@@ -87,7 +94,8 @@ module _ (p : PlanContents) (h : IsPlan p) where
 
   -- rows that tell what a round's do are its rows
   pub rows_are : (start end : ℕ) (rows : List Row) → length rows ≡ p.tree.processors
-      → ((q : ℕ) → q < p.tree.processors → slice_get rows q ≡ Some (record { processor = q; leaf = leaf_at p start end q no_row; start = start; end = end })) → rows ≡ rows_of_round p start end
+      → ((q : ℕ) → q < p.tree.processors → slice_get rows q ≡ Some
+      (record { processor = q; leaf = leaf_at p start end q no_row; start = start; end = end })) → rows ≡ rows_of_round p start end
   rows_are start end rows long each =
       let all = rows_of_round p start end in
       let wide = length-round p.set.tasks p.tree start end in
@@ -96,12 +104,15 @@ module _ (p : PlanContents) (h : IsPlan p) where
       let r : Row = get_or all q no_row in
       let at : slice_get all q ≡ Some r = slice_get-get_or all q no_row (omega (arith, inside, wide)) in
       let is = round_get p.set.tasks p.tree start end q r at in
-      let same : record { processor = q; leaf = r.leaf; start = start; end = end } ≡ r = ap (λ (l : Leaf). record { processor = q; leaf = l; start = start; end = end }) (ap (λ (x : Row). x.leaf) is) ∙ sym is in
-      let here : Some (get_or rows q no_row) ≡ Some (record { processor = q; leaf = leaf_at p start end q no_row; start = start; end = end }) = sym (slice_get-get_or rows q no_row l) ∙ each q inside in
+      let same : record { processor = q; leaf = r.leaf; start = start; end = end } ≡ r =
+      ap (λ (l : Leaf). record { processor = q; leaf = l; start = start; end = end }) (ap (λ (x : Row). x.leaf) is) ∙ sym is in
+      let here : Some (get_or rows q no_row) ≡ Some (record { processor = q; leaf = leaf_at p start end q no_row; start = start; end = end }) =
+      sym (slice_get-get_or rows q no_row l) ∙ each q inside in
       let here' : get_or rows q no_row ≡ record { processor = q; leaf = leaf_at p start end q no_row; start = start; end = end } = cc in
       here' ∙ same)
 
-  module _ (r : RoundsContents) (are : AreRoundsOf p r) (again : Recurrence) (is : IsRecurrence p again) (past : again.from + again.ticks ≤ r.tick) (left : rounds_in r.table.lanes < rounds_of p) where
+  module _ (r : RoundsContents) (are : AreRoundsOf p r) (again : Recurrence) (is : IsRecurrence p again) (past : again.from + again.ticks ≤ r.tick)
+      (left : rounds_in r.table.lanes < rounds_of p) where
     -- the tick at which the round began that comes again
     abbrev pub begun : ℕ
     begun = r.tick - again.ticks
@@ -122,10 +133,12 @@ module _ (p : PlanContents) (h : IsPlan p) where
     some = let later = is.later in omega (arith, past, later)
 
     began : event_at p begun ≡ true
-    began = sym (event_later p h is.can again.ticks is.again.turns begun some (let below = early in let e = then in omega (arith, below, e))) ∙ ap (event_at p) then ∙ on
+    began = sym (event_later p h is.can again.ticks is.again.turns begun some (let below = early in let e = then in omega (arith, below, e)))
+        ∙ ap (event_at p) then ∙ on
 
     pub ended : (end : ℕ) × IsRoundUpTo p begun end
-    ended = let below = early in let e = then in ends_at p begun (stop_of p - (begun + 1)) (begun + 1) began (omega arith) (omega (arith, below, e)) (λ x low high. absurd (omega (arith, low, high)))
+    ended = let below = early in let e = then in ends_at p begun (stop_of p - (begun + 1)) (begun + 1) began (omega arith) (omega (arith, below, e))
+        (λ x low high. absurd (omega (arith, low, high)))
 
     -- it comes again as the next one
     pub again_round : IsRoundUpTo p r.tick (min (ended.0 + again.ticks) (stop_of p))
@@ -167,20 +180,24 @@ module _ (p : PlanContents) (h : IsPlan p) where
         let count = are.count in
         omega (arith, one, rise, count)
 
-    row_is : (q : ℕ) (row : Row) → q < p.tree.processors → RowAt r.table.lanes q (rounds_before p begun) row → slice_get (rows_of_round p begun ended.0) q ≡ Some row
-    row_is q row inside at = row_in begun ended.0 r.tick ended.1 are.begins are.early q row inside (subst (λ (ls : List (List Row)). RowAt ls q (rounds_before p begun) row) are.lanes at)
+    row_is : (q : ℕ) (row : Row) → q < p.tree.processors → RowAt r.table.lanes q (rounds_before p begun) row → slice_get (rows_of_round p begun ended.0)
+        q ≡ Some row
+    row_is q row inside at = row_in begun ended.0 r.tick ended.1 are.begins are.early q row inside (subst (λ (ls : List (List Row)). RowAt ls q
+        (rounds_before p begun) row) are.lanes at)
 
     pub again_ends : (q : ℕ) (row : Row) → q < p.tree.processors → RowAt r.table.lanes q (rounds_before p begun) row → row.end ≡ ended.0
     again_ends q row inside at = ap (λ (x : Row). x.end) (round_get p.set.tasks p.tree begun ended.0 q row (row_is q row inside at))
 
-    pub again_shows : (q end : ℕ) (row : Row) → q < p.tree.processors → RowAt r.table.lanes q (rounds_before p begun) row → row.leaf ≡ leaf_at p r.tick end q no_row
+    pub again_shows : (q end : ℕ) (row : Row) → q < p.tree.processors → RowAt r.table.lanes q (rounds_before p begun) row → row.leaf ≡ leaf_at p r.tick end
+        q no_row
     again_shows q end row inside at =
         let below = early in
         let e = then in
         (row_shows p begun ended.0 q row (row_is q row inside at)).1
         ∙ sym (leaf_later p h is.can again.from again.ticks is.again begun ended.0 end q row (omega (arith, past)) (omega (arith, below, e)) inside)
         ∙ ap (λ n. leaf_at p n end q row) then
-        ∙ ap (λ (x : Row). x.leaf) (get_or_default (rows_of_round p r.tick end) q row no_row (let wide = length-round p.set.tasks p.tree r.tick end in omega (arith, inside, wide)))
+        ∙ ap (λ (x : Row). x.leaf) (get_or_default (rows_of_round p r.tick end) q row no_row (let wide = length-round p.set.tasks p.tree r.tick end in
+        omega (arith, inside, wide)))
 
     -- where a copy of the table has it
     module _ (old : Table) (n : ℕ) (same : old ≡ r.table) (all : n ≡ rounds_in old.lanes) where

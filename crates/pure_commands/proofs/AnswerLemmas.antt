@@ -20,7 +20,8 @@ use Rattle.pure_commands.specs.declared.refusal.Refusal.{Refusal}
 use Rattle.pure_commands.specs.declared.refusal.Refusal.TheVariants as why
 use Rattle.exit_status.specs.declared.Status.{Status}
 use Rattle.exit_status.specs.declared.Status.TheVariants.{Done, Invalid, NoMemory, BadInput, TooLong, TooWide}
-use Rattle.pure_commands.specs.Commands.{SetText, rates, server_tree, schedule_rows, wrapped_rows, c_table, repeating, Output, of_set, of_trace, of_picture, of_tree, of_batch}
+use Rattle.pure_commands.specs.Commands.{SetText, rates, server_tree, schedule_rows, wrapped_rows, c_table, repeating, Output, of_set, of_trace}
+use Rattle.pure_commands.specs.Commands.{of_picture, of_tree, of_batch}
 use Rattle.pure_commands.specs.Commands.{output_of, limit_of, plan_of, rows_of, HasRoom, RefusesText}
 use Rattle.pure_commands.specs.Commands.{Writes, CallsFor, Refuses}
 use Rattle.pure_commands.specs.SetTexts.{IsSchedulable, IsUnfit, IsTooLongSet, IsTooWideSet, IsUnrepeated, LacksRepeat, LacksText, Repeats}

@@ -4,7 +4,8 @@ use Rattle.std.specs.Io.KnownBytes.{Keeps}
 use Rattle.command_words.specs.declared.command.Command.{Command}
 use Rattle.command_words.specs.declared.command.Command.TheVariants.{Read}
 use Rattle.command_words.specs.declared.command.Reading.{Reading}
-use Rattle.command_words.specs.declared.command.Reading.TheVariants.{Rate, Tree, Trace, TraceMet, TraceWrap, TraceRepeat, Table, TableRepeat, Check, Follow, Draw}
+use Rattle.command_words.specs.declared.command.Reading.TheVariants.{Rate, Tree, Trace, TraceMet, TraceWrap, TraceRepeat, Table, TableRepeat, Check}
+use Rattle.command_words.specs.declared.command.Reading.TheVariants.{Follow, Draw}
 use Rattle.mode_join.specs.declared.faults.ModeKind.{ModeKind}
 use Rattle.mode_join.specs.declared.faults.ModeKind.TheVariants as kind
 use Rattle.task_reader.specs.declared.refusals.ReadSet.{ReadSet}
@@ -148,7 +149,8 @@ pub no_none : (asked : Option Command) (c : Command) → asked ≡ Some c → as
 no_none asked c some none = let bad : ◌≡◌ {A = Option Command} (Some c) None = sym some ∙ none in cc
 
 -- the command that reads and that was asked for is this one
-pub asked_ends : (reading r : Reading) (old new : Streams) (err err' : ErrorStream) (status : Status) → ◌≡◌ {A = Option Command} (Some (Read reading)) (Some (Read r))
+pub asked_ends : (reading r : Reading) (old new : Streams) (err err' : ErrorStream) (status : Status) → ◌≡◌ {A = Option Command} (Some (Read reading))
+    (Some (Read r))
     → Ends (output_of reading) old new err err' status → Ends (output_of r) old new err err' status
 asked_ends reading r old new err err' status e ends =
     let same : reading ≡ r = cc in

@@ -51,7 +51,8 @@ not_both bytes w line a b = let e : ◌≡◌ {A = Result Written ℕ} (Ok w) (E
 faultless : (w : Written) → IsLawful w.set → IsTextOfTree w → HasNoFault w
 faultless w lawful is = subst HasNoFault is.again (written_faultless w.set (text_tree w) lawful is.tree)
 
-no_fault_told : (bytes : List ℕ) (w v : Written) (line : ℕ) (kind : TreeKind) → reading bytes ≡ Ok w → IsTextOfTree w → reading bytes ≡ Ok v → IsFirstFault v line kind → ⊥
+no_fault_told : (bytes : List ℕ) (w v : Written) (line : ℕ) (kind : TreeKind) → reading bytes ≡ Ok w → IsTextOfTree w → reading bytes ≡ Ok v →
+    IsFirstFault v line kind → ⊥
 no_fault_told bytes w v line kind read is other first =
     let same = same_text bytes v w other read in
     let here : IsFirstFault w line kind = subst (λ (x : Written). IsFirstFault x line kind) same first in
@@ -114,12 +115,14 @@ keeps_same None = tt
 keeps_same (Some bytes) = refl
 
 -- a tree that is refused
-pub refused_tree : (w : Written) (out : Option (List ℕ)) (faults : ℕ) (e : TreeRefused) → trees.IsRefused w e → StopsAtPlan out out faults faults w (of_check_tree e)
+pub refused_tree : (w : Written) (out : Option (List ℕ)) (faults : ℕ) (e : TreeRefused) → trees.IsRefused w e → StopsAtPlan out out faults faults w
+    (of_check_tree e)
 refused_tree w out faults (refused.Fault line kind) is = (is, keeps_same out)
 refused_tree w out faults refused.NoMemory is = keeps_same out
 
 -- a schedule that isn't counted
-pub uncounted : (w : Written) (p : PlanContents) (out : Option (List ℕ)) (faults : ℕ) (e : CountFault) → p ≡ plan_told w → IsTextOfTree w → IsCountFault p e → StopsAtPlan out out faults faults w (of_count e)
+pub uncounted : (w : Written) (p : PlanContents) (out : Option (List ℕ)) (faults : ℕ) (e : CountFault) → p ≡ plan_told w → IsTextOfTree w →
+    IsCountFault p e → StopsAtPlan out out faults faults w (of_count e)
 uncounted w p out faults (count.TooLong rows) e is long =
     let many : row_limit < rows_of (plan_told w) = subst (λ n. row_limit < n) (rows_are w p e) long.0 in
     let processors : p.tree.processors ≡ w.set.processors = ap (λ (q : PlanContents). q.tree.processors) e ∙ is.tree.processors in
@@ -128,7 +131,8 @@ uncounted w p out faults count.NoMemory e is long = keeps_same out
 
 -- ---- what is followed is sound
 
-pub follows_trees : ((s : SetContents) → IsLawful s → (t : Tree) → IsTreeOf s t → IsValid s t.scale (s.horizon * t.scale) (s.horizon * t.scale) (schedule s.tasks t (s.horizon * t.scale)))
+pub follows_trees : ((s : SetContents) → IsLawful s → (t : Tree) → IsTreeOf s t → IsValid s t.scale (s.horizon * t.scale) (s.horizon * t.scale)
+    (schedule s.tasks t (s.horizon * t.scale)))
     → FollowsTrees
 follows_trees valid bytes w reads =
     let is = reads.is_text in

@@ -50,7 +50,8 @@ module _ (p : PlanContents) (on_time : AreOnTime p.set.tasks) (h : IsReadAgain p
   rows_told_same processors = ap₂ (λ a b. a * b) count_same (width_same processors)
 
 pub follows_as_traced : ((bytes : List ℕ) (s : SetContents) → set_read_from bytes ≡ Ok s → IsLawful s)
-    → ((s : SetContents) (scale : ℕ) → IsLawful s → AreOnTime s.tasks → IsScale s.tasks scale → scale ≤ 2 ^ 94 → Fits scale s → IsReadAgain (record { set = s; tree = tree_of scale s }))
+    → ((s : SetContents) (scale : ℕ) → IsLawful s → AreOnTime s.tasks → IsScale s.tasks scale → scale ≤ 2 ^ 94 → Fits scale s →
+    IsReadAgain (record { set = s; tree = tree_of scale s }))
     → ((s : SetContents) (scale : ℕ) → IsLawful s → IsScale s.tasks scale → Fits scale s → s.processors ≡ (tree_of scale s).processors)
     → FollowsAsTraced
 follows_as_traced lawful again processors bytes s scale reads fits on_time few =

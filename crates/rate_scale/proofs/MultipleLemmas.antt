@@ -2,7 +2,8 @@
 use Rattle.std.proofs.Common.{◌≡◌, ℕ, zero, suc, ◌*◌, ◌/◌, ◌%◌, ◌≤◌, ◌<◌, refl, sym, ◌∙◌, ap, subst, arith}
 use Rattle.std.specs.Int.{◌∣◌, IsGcd}
 use Rattle.std.proofs.lemmas.Nat.Gcd.{IsGcd-from_zero, IsGcd-from_mod}
-use Rattle.std.proofs.Math.Nat.{mul_comm, mul_assoc, mul_left_comm, mul-one, mul-pos, dvd-mul_left, dvd-mul_right, mul-div_cancel', div-mul_cancel, dvd_of_mul-dvd-mul_left, eq-one_of_dvd-one, pos_of_dvd_of_pos}
+use Rattle.std.proofs.Math.Nat.{mul_comm, mul_assoc, mul_left_comm, mul-one, mul-pos, dvd-mul_left, dvd-mul_right, mul-div_cancel', div-mul_cancel}
+use Rattle.std.proofs.Math.Nat.{dvd_of_mul-dvd-mul_left, eq-one_of_dvd-one, pos_of_dvd_of_pos}
 use Rattle.rate_scale.specs.Multiples.{IsLcm}
 
 -- a product of four, in another order

@@ -45,7 +45,8 @@ pub IsLeastMultiple-none : IsLeastMultiple [] 1
 IsLeastMultiple-none = record { positive = omega arith; divided = tt; least = λ n h. one-dvd n }
 
 -- one task more, at the end
-IsLeastMultiple-push : (tasks : List Task) (t : Task) (before after : ℕ) → IsLeastMultiple tasks before → IsLcm before t.period after → 1 ≤ after → IsLeastMultiple (tasks ++ t ∷ []) after
+IsLeastMultiple-push : (tasks : List Task) (t : Task) (before after : ℕ) → IsLeastMultiple tasks before → IsLcm before t.period after → 1 ≤ after →
+    IsLeastMultiple (tasks ++ t ∷ []) after
 IsLeastMultiple-push tasks t before after h lcm some = record {
   positive = some;
   divided = PeriodsDivide-push tasks t after (PeriodsDivide-trans tasks before after h.divided lcm.left) lcm.right;
@@ -60,7 +61,8 @@ IsLeastMultiple-next tasks i t before period after within at is h lcm some =
     rw grown (IsLeastMultiple-push (take i tasks) t before after h (subst (λ n. IsLcm before n after) is lcm) some)
 
 -- one task more, at the front
-IsLeastMultiple-cons : (t : Task) (tasks : List Task) (rest whole : ℕ) → IsLeastMultiple tasks rest → IsLcm t.period rest whole → 1 ≤ whole → IsLeastMultiple (t ∷ tasks) whole
+IsLeastMultiple-cons : (t : Task) (tasks : List Task) (rest whole : ℕ) → IsLeastMultiple tasks rest → IsLcm t.period rest whole → 1 ≤ whole →
+    IsLeastMultiple (t ∷ tasks) whole
 IsLeastMultiple-cons t tasks rest whole h lcm some = record {
   positive = some;
   divided = (lcm.left, PeriodsDivide-trans tasks rest whole h.divided lcm.right);

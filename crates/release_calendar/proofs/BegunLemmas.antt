@@ -1,5 +1,6 @@
 -- Lists of what begins at a unit.
-use Rattle.std.proofs.Common.{◌≡◌, ◌≢◌, ℕ, zero, suc, ◌+◌, ◌<◌, ◌≤◌, ◌++◌, ◌==◌, Bool, true, false, List, [], ◌∷◌, length, take, refl, ap, arith, inl, inr, sym, ◌∙◌, eq-eqb, get_or, get_or-set_same, get_or-set_other}
+use Rattle.std.proofs.Common.{◌≡◌, ◌≢◌, ℕ, zero, suc, ◌+◌, ◌<◌, ◌≤◌, ◌++◌, ◌==◌, Bool, true, false, List, [], ◌∷◌, length, take, refl, ap, arith, inl}
+use Rattle.std.proofs.Common.{inr, sym, ◌∙◌, eq-eqb, get_or, get_or-set_same, get_or-set_other}
 use Rattle.std.proofs.lemmas.Bool.{cases_eq, cases_lt, both_ways}
 use Rattle.std.proofs.lemmas.List.{length-map, length-take-le, length-append, map-append, get_or-map, get_or-take, take_more_set}
 use Rattle.std.proofs.Math.ListN.{set}
@@ -9,19 +10,25 @@ use Rattle.run_tree.specs.Tree.{numbers}
 use Rattle.release_calendar.specs.Calendars.{AreListed, ending}
 
 -- a node of the first ones of a list
-pub node_among : (begun : List NodeId) (count k : ℕ) (none : NodeId) → count ≤ length begun → k < length (numbers (take count begun)) → (k < length begun) × ((get_or begun k none).0 ≡ get_or (numbers (take count begun)) k 0)
+pub node_among : (begun : List NodeId) (count k : ℕ) (none : NodeId) → count ≤ length begun → k < length (numbers (take count begun)) → (k < length begun)
+    × ((get_or begun k none).0 ≡ get_or (numbers (take count begun)) k 0)
 node_among begun count k none c l =
     let long = length-map (take count begun) (λ (n : NodeId). n.0) in
     let all = length-take-le count begun c in
-    let b : k < count = omega (arith, l, long, all) in
-    (omega (arith, b, c), ap (λ (n : NodeId). n.0) (sym (get_or-take count begun k none b)) ∙ sym (get_or-map (λ (n : NodeId). n.0) (take count begun) k none 0 (omega (arith, b, all))))
+    let b : k < count = omega (arith, l, long, all) in (
+      omega (arith, b, c),
+      ap (λ (n : NodeId). n.0) (sym (get_or-take count begun k none b)) ∙ sym (get_or-map (λ (n : NodeId). n.0) (take count begun) k
+          none 0 (omega (arith, b, all))),
+    )
 
 -- one more is put behind the first ones
-pub one_more : (begun : List NodeId) (count : ℕ) (n : NodeId) → count < length begun → numbers (take (count + 1) (set begun count n)) ≡ numbers (take count begun) ++ n.0 ∷ []
+pub one_more : (begun : List NodeId) (count : ℕ) (n : NodeId) → count < length begun → numbers (take (count + 1) (set begun count n)) ≡ numbers
+    (take count begun) ++ n.0 ∷ []
 one_more begun count n l = ap numbers (take_more_set begun count n l) ∙ map-append (λ (n : NodeId). n.0) (take count begun) (n ∷ [])
 
 -- one node more is marked and listed
-pub listed_step : (due due' : List Bool) (begun begun' : List ℕ) (x : ℕ) → x < length due → due' ≡ set due x true → begun' ≡ begun ++ x ∷ [] → AreListed due begun → AreListed due' begun'
+pub listed_step : (due due' : List Bool) (begun begun' : List ℕ) (x : ℕ) → x < length due → due' ≡ set due x true → begun' ≡ begun ++ x ∷ [] →
+    AreListed due begun → AreListed due' begun'
 listed_step due due' begun begun' x b is_due is_begun h = record {
   all = λ y on. elim (cases_eq y x) [
     | inl same ↦ (length begun, (let e = longer in omega (arith, e)), last ∙ sym same)
@@ -29,7 +36,8 @@ listed_step due due' begun begun' x b is_due is_begun h = record {
   ];
   marked = λ k l. elim (cases_lt k (length begun)) [
     | inl m ↦ ap (λ z. get_or due' z false) (first k m) ∙ still (get_or begun k 0) (h.marked k m)
-    | inr m ↦ (let e = longer in let at : k ≡ length begun = omega (arith, l, e, m) in ap (λ z. get_or due' z false) (ap (λ z. get_or begun' z 0) at ∙ last) ∙ here)
+    | inr m ↦ (let e = longer in let at : k ≡ length begun = omega (arith, l, e, m) in ap (λ z. get_or due' z false) (ap (λ z. get_or begun' z 0) at ∙ last)
+        ∙ here)
   ];
 }
   where

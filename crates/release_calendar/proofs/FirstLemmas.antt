@@ -27,7 +27,8 @@ zeros_fit n ends zeros x =
     omega (arith, at, none)
 
 -- one leaf more
-pub first_next : (t : Tree) (ends : List ℕ) (x d : ℕ) → x < length t.nodes → is_leaf (kind_at t x) ≡ true → IsFirstEnd t ends x d → IsFirstEnd t ends (x + 1) (min d (get_or ends x 0))
+pub first_next : (t : Tree) (ends : List ℕ) (x d : ℕ) → x < length t.nodes → is_leaf (kind_at t x) ≡ true → IsFirstEnd t ends x d →
+    IsFirstEnd t ends (x + 1) (min d (get_or ends x 0))
 first_next t ends x d within leaf first = record {
   below = (let most = first.below in omega (arith, most));
   all = λ y b i. elim (cases_eq y x) [

@@ -19,12 +19,14 @@ whole_periods task u l e = elim (or_cases (eqb u 0) (leb task.offset u && eqb ((
 ]
 
 -- so the next boundary is a period later
-pub period_later : (task : declared.Task) (u : ℕ) → task.offset ≤ u → task_boundary task u ≡ true → u + task.period ≡ task.offset + ((u - task.offset) / task.period + 1) * task.period
+pub period_later : (task : declared.Task) (u : ℕ) → task.offset ≤ u → task_boundary task u ≡ true → u + task.period ≡ task.offset + ((u - task.offset) /
+    task.period + 1) * task.period
 period_later task u l e =
     let d = div-add-mod' (u - task.offset) task.period in
     let z = whole_periods task u l e in
     omega (arith, d, z, l)
 
 -- what is a boundary of a node is one of its leaf
-pub leaf_begins : (p : PlanContents) → IsPlan p → (n : ℕ) (l : Leaf) (u : ℕ) → n < length p.tree.nodes → kind_at p.tree n ≡ kind.Leaf l → boundary_of p n u ≡ true → set_boundary p.set.tasks l u ≡ true
+pub leaf_begins : (p : PlanContents) → IsPlan p → (n : ℕ) (l : Leaf) (u : ℕ) → n < length p.tree.nodes → kind_at p.tree n ≡ kind.Leaf l →
+    boundary_of p n u ≡ true → set_boundary p.set.tasks l u ≡ true
 leaf_begins p h n l u b e on = ap (λ k. set_boundary p.set.tasks (leaf_of k) u) (sym e) ∙ sym (bound_at_leaf p h n (b, ap is_leaf e) u) ∙ on

@@ -1,5 +1,6 @@
 -- Windows that end at a unit are followed by the next ones.
-use Rattle.std.proofs.Common.{◌≡◌, ℕ, ◌+◌, ◌<◌, ◌≤◌, ◌^◌, ◌&&◌, ◌==◌, not, Bool, true, false, List, length, get_or, refl, ap, arith, inl, inr, sym, subst, subst₂, ◌∙◌, Vec, eq-eqb}
+use Rattle.std.proofs.Common.{◌≡◌, ℕ, ◌+◌, ◌<◌, ◌≤◌, ◌^◌, ◌&&◌, ◌==◌, not, Bool, true, false, List, length, get_or, refl, ap, arith, inl, inr, sym}
+use Rattle.std.proofs.Common.{subst, subst₂, ◌∙◌, Vec, eq-eqb}
 use Rattle.std.specs.Prelude.{Option, IfSome}
 use Rattle.std.specs.Vec.{with_items}
 use Rattle.std.proofs.lemmas.Grind.{get_or_default_zero}
@@ -13,7 +14,8 @@ use Rattle.release_calendar.specs.Calendars.{CalendarContents, HasWindow, IsNext
 use Rattle.release_calendar.proofs.NextLemmas.{have, next-le-end}
 
 -- a turn of a node leaves what stands at packs
-pub packs_kept : (p : PlanContents) (ends ends' : List ℕ) (x : ℕ) → (is_pack (kind_at p.tree x) ≡ true → get_or ends' x 0 ≡ get_or ends x 0) → ((y : ℕ) → (y ≡ x → ⊥) → get_or ends' y 0 ≡ get_or ends y 0) → PacksNeverEnd p.tree ends → PacksNeverEnd p.tree ends'
+pub packs_kept : (p : PlanContents) (ends ends' : List ℕ) (x : ℕ) → (is_pack (kind_at p.tree x) ≡ true → get_or ends' x 0 ≡ get_or ends x 0) →
+    ((y : ℕ) → (y ≡ x → ⊥) → get_or ends' y 0 ≡ get_or ends y 0) → PacksNeverEnd p.tree ends → PacksNeverEnd p.tree ends'
 packs_kept p ends ends' x own others packs y i = elim (cases_eq y x) [
   | inl same ↦ (let P : ℕ → Type 0 = λ z. is_pack (kind_at p.tree z) ≡ true → get_or ends' z 0 ≡ get_or ends z 0 in subst P (sym same) own i.1 ∙ packs y i)
   | inr ne ↦ others y ne ∙ packs y i
@@ -82,7 +84,8 @@ module _ (p : PlanContents) (h : IsPlan p) where
   turn_none begins ends u n e = record { done = λ x l i. absurd (omega arith); same_begin = λ x l. refl; same_end = λ x l. refl }
 
   -- at last all have
-  pub turn_all : (begins ends begins' ends' : List ℕ) (u : ℕ) → AreTurned p begins ends begins' ends' u (length p.tree.nodes) → (x : ℕ) → IsMember p.tree x → HasWindow p begins' ends' u x
+  pub turn_all : (begins ends begins' ends' : List ℕ) (u : ℕ) → AreTurned p begins ends begins' ends' u (length p.tree.nodes) → (x : ℕ) →
+      IsMember p.tree x → HasWindow p begins' ends' u x
   turn_all begins ends begins' ends' u w x i = w.done x i.0 i
 
   -- every window begins at unit 0
@@ -122,7 +125,8 @@ module _ (p : PlanContents) (h : IsPlan p) where
         ap (λ (b : Bool). not b && get_or begins x 0 == u) member
         ∙ (elim (cases_Bool (boundary_of p x u)) [
           | inl on ↦ ap (λ v. v == u) (begin ∙ begins_here x u i on) ∙ same_number u ∙ sym on
-          | inr off ↦ ne_eqb (get_or begins x 0) u (λ s. both_ways (boundary_of p x u) off (ap (boundary_of p x) (sym s ∙ begin) ∙ (begin_is (boundary_of p x) (have p h x i).first u).here)) ∙ sym off
+          | inr off ↦ ne_eqb (get_or begins x 0) u (λ s. both_ways (boundary_of p x u) off (ap (boundary_of p x) (sym s ∙ begin)
+              ∙ (begin_is (boundary_of p x) (have p h x i).first u).here)) ∙ sym off
         ])
         ∙ sym (ap (λ (b : Bool). not b && boundary_of p x u) member))
   ])
@@ -131,7 +135,8 @@ module _ (p : PlanContents) (h : IsPlan p) where
       same_number v = eq-eqb v v refl
 
   -- what is written belongs to the plan
-  pub belongs_written : {Z : Type 0} (vb ve : Vec ℕ Z) (begins ends begun steps : List ℕ) (u d : ℕ) → u ≤ p.set.horizon → length begins ≡ length p.tree.nodes → length ends ≡ length p.tree.nodes →
+  pub belongs_written : {Z : Type 0} (vb ve : Vec ℕ Z) (begins ends begun steps : List ℕ) (u d : ℕ) → u ≤ p.set.horizon → length begins ≡ length
+      p.tree.nodes → length ends ≡ length p.tree.nodes →
       length vb.items ≡ length begins → length ve.items ≡ length ends →
       ((x : ℕ) → IsMember p.tree x → HasWindow p begins ends u x) → PacksNeverEnd p.tree ends → IsNext p.set.tasks u d → AreSteps p steps →
       BelongsTo p (record { unit = u; next = d; begins = (with_items vb begins).items; ends = (with_items ve ends).items; begun = begun; steps = steps })
@@ -139,18 +144,27 @@ module _ (p : PlanContents) (h : IsPlan p) where
       let P : List ℕ → List ℕ → Type 0 = λ xs ys. BelongsTo p (record { unit = u; next = d; begins = xs; ends = ys; begun = begun; steps = steps }) in
       let kb = vb.ok.0 in
       let ke = ve.ok.0 in
-      let whole : BelongsTo p (record { unit = u; next = d; begins = begins; ends = ends; begun = begun; steps = steps }) = record { unit_fits = early; begins_long = b; ends_long = e; windows = w; packs = packs; next = n; steps = all } in
+      let whole : BelongsTo p (record { unit = u; next = d; begins = begins; ends = ends; begun = begun; steps = steps }) =
+      record { unit_fits = early; begins_long = b; ends_long = e; windows = w; packs = packs; next = n; steps = all } in
       subst₂ P (sym (with_items_is vb begins (omega (arith, kb, sb)))) (sym (with_items_is ve ends (omega (arith, ke, se)))) whole
 
 -- what is written is what a calendar keeps
-pub kept_written : {Z : Type 0} (vb ve : Vec ℕ Z) (begins ends : List ℕ) (order : Option (List ℕ)) (n count turned d : ℕ) → length vb.items ≡ length begins → length ve.items ≡ length ends → length begins ≡ n → length ends ≡ n → count ≡ n → turned ≤ count →
+pub kept_written : {Z : Type 0} (vb ve : Vec ℕ Z) (begins ends : List ℕ) (order : Option (List ℕ)) (n count turned d : ℕ) → length vb.items ≡ length begins
+    → length ve.items ≡ length ends → length begins ≡ n → length ends ≡ n → count ≡ n → turned ≤ count →
     EndsFit ends → IfSome order (λ o. o ≡ ends) → d ≤ 2 ^ 33 →
-    (length (with_items ve ends).items ≡ length (with_items vb begins).items) × EndsFit (with_items ve ends).items × IfSome order (λ o. o ≡ (with_items ve ends).items) × (count ≡ length (with_items vb begins).items) × (turned ≤ count) × (d ≤ 2 ^ 33)
+    (length (with_items ve ends).items ≡ length (with_items vb begins).items) × EndsFit (with_items ve ends).items
+    × IfSome order (λ o. o ≡ (with_items ve ends).items) × (count ≡ length (with_items vb begins).items) × (turned ≤ count) × (d ≤ 2 ^ 33)
 kept_written vb ve begins ends order n count turned d sb se b e c some fit ordered below =
     let kb = vb.ok.0 in
     let ke = ve.ok.0 in
     let whole_b = with_items_is vb begins (omega (arith, kb, sb)) in
     let whole_e = with_items_is ve ends (omega (arith, ke, se)) in
     let long_b : length (with_items vb begins).items ≡ n = ap (λ (xs : List ℕ). length xs) whole_b ∙ b in
-    let long_e : length (with_items ve ends).items ≡ n = ap (λ (xs : List ℕ). length xs) whole_e ∙ e in
-    (long_e ∙ sym long_b, subst (λ xs. EndsFit xs) (sym whole_e) fit, subst (λ (xs : List ℕ). IfSome order (λ o. o ≡ xs)) (sym whole_e) ordered, c ∙ sym long_b, some, below)
+    let long_e : length (with_items ve ends).items ≡ n = ap (λ (xs : List ℕ). length xs) whole_e ∙ e in (
+      long_e ∙ sym long_b,
+      subst (λ xs. EndsFit xs) (sym whole_e) fit,
+      subst (λ (xs : List ℕ). IfSome order (λ o. o ≡ xs)) (sym whole_e) ordered,
+      c ∙ sym long_b,
+      some,
+      below,
+    )

@@ -11,7 +11,8 @@ use Rattle.sched_base.specs.declared.sets.Task as declared
 use Rattle.sched_base.specs.Scale.{IsScale, PeriodsDivide}
 use Rattle.sched_base.specs.Sets.{SetContents, task_at}
 use Rattle.sched_base.specs.Valid.{IsValid}
-use Rattle.repeat_laws.specs.Repeats.{CanRepeat, ComesAgain, NoneIsOpen, StandsAgain, can_repeat, ends_again, given, given_again, open_since, repeat_unit, repeated_from, stands_again}
+use Rattle.repeat_laws.specs.Repeats.{CanRepeat, ComesAgain, NoneIsOpen, StandsAgain, can_repeat, ends_again, given, given_again, open_since}
+use Rattle.repeat_laws.specs.Repeats.{repeat_unit, repeated_from, stands_again}
 use Rattle.repeat_laws.proofs.CanRepeats.{can_repeat_true, true_can_repeat}
 use Rattle.repeat_laws.proofs.Repeating.{all_by_number, of_task}
 use Rattle.repeat_laws.proofs.RepeatingFrom.{closed_again, repeated_from_valid}
@@ -74,7 +75,8 @@ module _ (s : SetContents) (scale from units : ℕ) (rows : List Row) where
   tested_by again = tested (λ j low. (of_task (λ t. t.offset ≤ from) s.tasks j again.released low, again.same j low))
 
 -- the test says just that
-pub decided : (s : SetContents) (scale from : ℕ) (rows : List Row) → IsScale s.tasks scale → (stands_again s scale from scale rows ≡ true) ↔ StandsAgain s scale from scale rows
+pub decided : (s : SetContents) (scale from : ℕ) (rows : List Row) → IsScale s.tasks scale → (stands_again s scale from scale rows ≡ true) ↔ StandsAgain s
+    scale from scale rows
 decided s scale from rows is = (stands_by s scale from scale rows is.positive is.divided, tested_by s scale from scale rows)
 
 -- rows that stand at the horizon as at a unit before it come again from there
@@ -108,15 +110,18 @@ pub unit_start : (s : SetContents) (scale : ℕ) (rows : List Row) → can_repea
 unfolding repeat_unit
 unit_start s scale rows can = cond-true (can_repeat s) 0 (cond (ends_again s scale rows) (s.horizon - scale) s.horizon) can
 
-pub unit_before : (s : SetContents) (scale : ℕ) (rows : List Row) → can_repeat s ≡ false → ends_again s scale rows ≡ true → repeat_unit s scale rows ≡ s.horizon - scale
+pub unit_before : (s : SetContents) (scale : ℕ) (rows : List Row) → can_repeat s ≡ false → ends_again s scale rows ≡ true →
+    repeat_unit s scale rows ≡ s.horizon - scale
 unfolding repeat_unit
 unit_before s scale rows cannot ends =
-    cond-false (can_repeat s) 0 (cond (ends_again s scale rows) (s.horizon - scale) s.horizon) cannot ∙ cond-true (ends_again s scale rows) (s.horizon - scale) s.horizon ends
+    cond-false (can_repeat s) 0 (cond (ends_again s scale rows) (s.horizon - scale) s.horizon) cannot ∙ cond-true (ends_again s scale rows)
+    (s.horizon - scale) s.horizon ends
 
 pub unit_none : (s : SetContents) (scale : ℕ) (rows : List Row) → can_repeat s ≡ false → ends_again s scale rows ≡ false → repeat_unit s scale rows ≡ s.horizon
 unfolding repeat_unit
 unit_none s scale rows cannot other =
-    cond-false (can_repeat s) 0 (cond (ends_again s scale rows) (s.horizon - scale) s.horizon) cannot ∙ cond-false (ends_again s scale rows) (s.horizon - scale) s.horizon other
+    cond-false (can_repeat s) 0 (cond (ends_again s scale rows) (s.horizon - scale) s.horizon) cannot ∙ cond-false (ends_again s scale rows)
+    (s.horizon - scale) s.horizon other
 
 -- it isn't behind the horizon
 pub unit_within : (s : SetContents) (scale : ℕ) (rows : List Row) → repeat_unit s scale rows ≤ s.horizon

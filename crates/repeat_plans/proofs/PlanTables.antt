@@ -1,6 +1,7 @@
 -- The rounds of a plan are a table, and their rows, each processor's merged, are a valid schedule.
 use Rattle.std.proofs.Math.Nat.{mul-le-mul}
-use Rattle.std.proofs.Common.{◌≡◌, inl, inr, ℕ, zero, suc, ◌+◌, ◌-◌, ◌*◌, ◌^◌, ◌<◌, ◌≤◌, lit<, le_of_lt, zero-add, true, false, Bool, List, [], ◌∷◌, length, map, replicate, refl, sym, ap, ◌∙◌, subst, arith}
+use Rattle.std.proofs.Common.{◌≡◌, inl, inr, ℕ, zero, suc, ◌+◌, ◌-◌, ◌*◌, ◌^◌, ◌<◌, ◌≤◌, lit<, le_of_lt, zero-add, true, false, Bool, List, [], ◌∷◌}
+use Rattle.std.proofs.Common.{length, map, replicate, refl, sym, ap, ◌∙◌, subst, arith}
 use Rattle.std.specs.List.{AllByRecursion}
 use Rattle.std.proofs.lemmas.Bool.{cases_Bool, cases_eq}
 use Rattle.sched_base.specs.declared.rows.Row.{Row}
@@ -29,8 +30,10 @@ use Rattle.merged_rows.proofs.PushLemmas.{all_merged}
 -- ---- from one round to the next
 
 -- a round that begins before the end of all ends somewhere
-ends_at : (p : PlanContents) (start fuel n : ℕ) → event_at p start ≡ true → start < n → n + fuel ≡ stop_of p → ((x : ℕ) → start < x → x < n → event_at p x ≡ false) → (end : ℕ) × IsRoundUpTo p start end
-ends_at p start zero n on above all quiet = (n, record { event = on; above = above; below = omega (arith, all); quiet = quiet; last = inl (omega (arith, all)) })
+ends_at : (p : PlanContents) (start fuel n : ℕ) → event_at p start ≡ true → start < n → n + fuel ≡ stop_of p → ((x : ℕ) → start < x → x < n →
+    event_at p x ≡ false) → (end : ℕ) × IsRoundUpTo p start end
+ends_at p start zero n on above all quiet =
+    (n, record { event = on; above = above; below = omega (arith, all); quiet = quiet; last = inl (omega (arith, all)) })
 ends_at p start (suc fuel) n on above all quiet = elim (cases_Bool (event_at p n)) [
   | inl is ↦ (n, record { event = on; above = above; below = omega (arith, all); quiet = quiet; last = inr is })
   | inr off ↦ ends_at p start fuel (n + 1) on (omega (arith, above)) (omega (arith, all)) (λ x low high. elim (cases_eq x n) [
@@ -40,7 +43,8 @@ ends_at p start (suc fuel) n on above all quiet = elim (cases_Bool (event_at p n
 ]
 
 -- what each round keeps holds at the end, where it holds at a round's start
-at_stop : (p : PlanContents) (P : ℕ → Type 0) → ((start end : ℕ) → IsRoundUpTo p start end → P start → P end) → (fuel n : ℕ) → stop_of p ≤ n + fuel → n ≤ stop_of p → IsRoundStart p n → P n → P (stop_of p)
+at_stop : (p : PlanContents) (P : ℕ → Type 0) → ((start end : ℕ) → IsRoundUpTo p start end → P start → P end) → (fuel n : ℕ) → stop_of p ≤ n + fuel →
+    n ≤ stop_of p → IsRoundStart p n → P n → P (stop_of p)
 at_stop p P keeps zero n enough below start here = subst P (omega (arith, enough, below)) here
 at_stop p P keeps (suc fuel) n enough below (inl same) here = subst P same here
 at_stop p P keeps (suc fuel) n enough below (inr on) here = elim (cases_eq n (stop_of p)) [
@@ -105,7 +109,8 @@ module _ (p : PlanContents) (h : HasTree p) where
     table_next : IsTableUpTo p start → IsTableUpTo p end
     table_next t = record {
       table = subst (λ (lanes : List (List Row)). IsTable lanes) (sym lanes_next)
-          (IsTable-with_round (lanes_at p start) (rows_of_round p start end) t.table same_width (subst (λ n. IsRound n (rows_of_round p start end)) (sym t.ends) round));
+          (IsTable-with_round (lanes_at p start) (rows_of_round p start end) t.table same_width (subst (λ n. IsRound n (rows_of_round p start end))
+          (sym t.ends) round));
       ends = ap end_of lanes_next
           ∙ end_of-with_round (lanes_at p start) (rows_of_round p start end) end same_width some_lanes
           (λ row at. ap (λ (x : Row). x.end) (round_get p.set.tasks p.tree start end 0 row at));
@@ -123,7 +128,8 @@ unread_all : (P Q : Row → Type 0) (rows : List Row) → ((r : Row) → P (row_
 unread_all P Q [] by each = tt
 unread_all P Q (r ∷ rows) by each = (by r each.0, unread_all P Q rows by each.1)
 
-unread_apart : (P Q : Row → Row → Type 0) (rows : List Row) → ((r q : Row) → P (row_as_read r) (row_as_read q) → Q r q) → AllApart P (map row_as_read rows) → AllApart Q rows
+unread_apart : (P Q : Row → Row → Type 0) (rows : List Row) → ((r q : Row) → P (row_as_read r) (row_as_read q) → Q r q) → AllApart P (map row_as_read rows)
+    → AllApart Q rows
 unread_apart P Q [] by apart = tt
 unread_apart P Q (r ∷ rows) by apart = (unread_all (P (row_as_read r)) (Q r) rows (λ q. by r q) apart.0, unread_apart P Q rows by apart.1)
 
@@ -135,9 +141,11 @@ ticks_unread (r ∷ rows) j x y =
     omega (arith, rest, here)
 
 -- rows are valid where they are as reading them gives them
-unread_valid : (s : SetContents) (scale horizon stop : ℕ) (rows : List Row) → IsValid s scale horizon stop (map row_as_read rows) → IsValid s scale horizon stop rows
+unread_valid : (s : SetContents) (scale horizon stop : ℕ) (rows : List Row) → IsValid s scale horizon stop (map row_as_read rows) → IsValid s scale horizon
+    stop rows
 unread_valid s scale horizon stop rows valid = record {
-  bounded = unread_all (λ r. (r.processor < s.processors) × (r.end ≤ stop)) (λ r. (r.processor < s.processors) × (r.end ≤ stop)) rows (λ r is. is) valid.bounded;
+  bounded = unread_all (λ r. (r.processor < s.processors) × (r.end ≤ stop)) (λ r. (r.processor < s.processors) × (r.end ≤ stop)) rows (λ r is. is)
+      valid.bounded;
   processors_apart = unread_apart (λ r q. r.processor ≡ q.processor → DontOverlap r q) (λ r q. r.processor ≡ q.processor → DontOverlap r q) rows
       (λ r q apart same. apart same) valid.processors_apart;
   tasks_apart = unread_apart (λ r q. (j : ℕ) → is_of_task j r.leaf ≡ true → is_of_task j q.leaf ≡ true → DontOverlap r q)

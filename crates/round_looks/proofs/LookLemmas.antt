@@ -1,5 +1,6 @@
 -- What is told of processors, one after another.
-use Rattle.std.proofs.Common.{◌≡◌, ◌≢◌, ℕ, zero, suc, ◌+◌, ◌*◌, ◌<◌, ◌≤◌, inl, inr, Bool, true, false, List, [], ◌∷◌, length, get_or, get_or-set_same, get_or-set_other, set, nat_lt, Option, None, refl, sym, ap, subst, ◌∙◌, arith}
+use Rattle.std.proofs.Common.{◌≡◌, ◌≢◌, ℕ, zero, suc, ◌+◌, ◌*◌, ◌<◌, ◌≤◌, inl, inr, Bool, true, false, List, [], ◌∷◌, length, get_or, get_or-set_same}
+use Rattle.std.proofs.Common.{get_or-set_other, set, nat_lt, Option, None, refl, sym, ap, subst, ◌∙◌, arith}
 use Rattle.std.proofs.lemmas.Bool.{cases_Bool, cases_lt, le-ltb, ltb-false}
 use Rattle.sched_base.specs.declared.rows.Leaf.{Leaf}
 use Rattle.sched_base.specs.declared.rows.Leaf.TheVariants.{Task, Wait, Idle, Empty}
@@ -34,7 +35,8 @@ same_there (n ∷ nodes) zero d l = refl
 same_there (n ∷ nodes) (suc q) d l = same_there nodes q d (omega (arith, l))
 
 -- with one processor more
-pub looked_on : (p : PlanContents) (start end q : ℕ) (first kept : List (Option NodeId)) (told : List (Option Leaf)) (d node : Option NodeId) (leaf : Option Leaf)
+pub looked_on : (p : PlanContents) (start end q : ℕ) (first kept : List (Option NodeId)) (told : List (Option Leaf)) (d node : Option NodeId)
+    (leaf : Option Leaf)
     → q < length kept → q < length told
     → ((k : ℕ) → k < q → IsLooked p start end k (get_or first k None) (get_or kept k None) (get_or told k None))
     → ((k : ℕ) → q ≤ k → get_or kept k None ≡ get_or first k None)
@@ -52,7 +54,8 @@ looked_on p start end q first kept told d node leaf here there done left now k l
       let P : ℕ → Type 0 = λ j. IsLooked p start end j (get_or first j None) (get_or (set kept q node) j None) (get_or (set told q leaf) j None) in
       let before : get_or kept q d ≡ get_or first q None = same_there kept q d here ∙ left q (omega arith) in
       subst P same
-      (subst (λ (o : Option Leaf). IsLooked p start end q (get_or first q None) (get_or (set kept q node) q None) o) (sym (get_or-set_same told q leaf None there))
+      (subst (λ (o : Option Leaf). IsLooked p start end q (get_or first q None) (get_or (set kept q node) q None) o)
+      (sym (get_or-set_same told q leaf None there))
       (subst (λ (a : Option NodeId). IsLooked p start end q (get_or first q None) a leaf) (sym (get_or-set_same kept q node None here))
       (subst (λ (b : Option NodeId). IsLooked p start end q b node leaf) before now))))
 ]
@@ -73,6 +76,7 @@ looked_past p start end n m first kept told done left untold again k b = elim (c
 ]
 
 -- what is read of the node that is kept
-pub looked_again : (p : PlanContents) (start end q : ℕ) (kept : List (Option NodeId)) (d : Option NodeId) → q < length kept → IsLooked p start end q (get_or kept q d) (get_or kept q d) None
+pub looked_again : (p : PlanContents) (start end q : ℕ) (kept : List (Option NodeId)) (d : Option NodeId) → q < length kept → IsLooked p start end q
+    (get_or kept q d) (get_or kept q d) None
     → IsLooked p start end q (get_or kept q None) (get_or kept q None) None
 looked_again p start end q kept d l now = subst (λ (o : Option NodeId). IsLooked p start end q o o None) (same_there kept q d l) now

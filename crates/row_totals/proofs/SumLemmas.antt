@@ -14,7 +14,8 @@ abbrev pub no_row : Row
 no_row = record { processor = 0; start = 0; end = 0; leaf = Task (record { 0 = 0 }) }
 
 -- one row more
-pub ticks_in-take-more : (j : ℕ) (rows : List Row) (i : ℕ) → i < length rows → ticks_in j (take (suc i) rows) ≡ ticks_in j (take i rows) + ticks_in j (get_or rows i no_row ∷ [])
+pub ticks_in-take-more : (j : ℕ) (rows : List Row) (i : ℕ) → i < length rows → ticks_in j (take (suc i) rows) ≡ ticks_in j (take i rows) + ticks_in j
+    (get_or rows i no_row ∷ [])
 ticks_in-take-more j [] i within = absurd (omega arith)
 ticks_in-take-more j (r ∷ rows) zero within = omega arith
 ticks_in-take-more j (r ∷ rows) (suc i) within = let e = ticks_in-take-more j rows i (omega arith) in omega (arith, e)
@@ -31,7 +32,8 @@ ticks_in-append j [] ys = omega arith
 ticks_in-append j (x ∷ xs) ys = let rest = ticks_in-append j xs ys in omega (arith, rest)
 
 -- one lane more
-pub ticks_in-lanes-more : (j : ℕ) (lanes : List (List Row)) (p : ℕ) → p < length lanes → ticks_in j (all_rows (take (suc p) lanes)) ≡ ticks_in j (all_rows (take p lanes)) + ticks_in j (lane_of lanes p)
+pub ticks_in-lanes-more : (j : ℕ) (lanes : List (List Row)) (p : ℕ) → p < length lanes → ticks_in j (all_rows (take (suc p) lanes)) ≡ ticks_in j
+    (all_rows (take p lanes)) + ticks_in j (lane_of lanes p)
 ticks_in-lanes-more j [] p within = absurd (omega arith)
 ticks_in-lanes-more j (lane ∷ lanes) zero within = let e = ticks_in-append j lane [] in omega (arith, e)
 ticks_in-lanes-more j (lane ∷ lanes) (suc p) within =
@@ -56,14 +58,16 @@ pub Adds-none : (sums : List ℕ) → Adds [] sums sums
 Adds-none sums j within = omega arith
 
 -- rows that are added after others
-pub Adds-then : (first then both : List Row) (a b c : List ℕ) → length b ≡ length a → ((j : ℕ) → ticks_in j both ≡ ticks_in j first + ticks_in j then) → Adds first a b → Adds then b c → Adds both a c
+pub Adds-then : (first then both : List Row) (a b c : List ℕ) → length b ≡ length a → ((j : ℕ) → ticks_in j both ≡ ticks_in j first + ticks_in j then) →
+    Adds first a b → Adds then b c → Adds both a c
 Adds-then first then both a b c same ticks one two j within =
     let e = one j within in
     let f = two j (omega (arith, same, within)) in
     omega (arith, e, f, ticks j)
 
 -- there is room for the next rows, where there was for them and those before
-pub room_after : (first then all : List Row) (a b : List ℕ) → length b ≡ length a → ((j : ℕ) → ticks_in j first + ticks_in j then ≤ ticks_in j all) → HaveRoomFor all a → Adds first a b → HaveRoomFor then b
+pub room_after : (first then all : List Row) (a b : List ℕ) → length b ≡ length a → ((j : ℕ) → ticks_in j first + ticks_in j then ≤ ticks_in j all) →
+    HaveRoomFor all a → Adds first a b → HaveRoomFor then b
 room_after first then all a b same ticks room one j within =
     let inside : j < length a = omega (arith, same, within) in
     let e = one j inside in

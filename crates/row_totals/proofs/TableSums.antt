@@ -8,7 +8,8 @@ use Rattle.sched_base.proofs.TickLemmas.{ticks_before-le}
 use Rattle.row_totals.proofs.SumLemmas.{ticks_in-append}
 
 -- the ticks of all rounds are those of all rows
-ticks_before-all : (j k : ℕ) (lanes : List (List Row)) → ((p : ℕ) → p < length lanes → length (lane_of lanes p) ≡ k) → ticks_before j k lanes ≡ ticks_in j (all_rows lanes)
+ticks_before-all : (j k : ℕ) (lanes : List (List Row)) → ((p : ℕ) → p < length lanes → length (lane_of lanes p) ≡ k) → ticks_before j k lanes ≡ ticks_in j
+    (all_rows lanes)
 ticks_before-all j k [] whole = refl
 ticks_before-all j k (lane ∷ lanes) whole =
     let long : length lane ≡ k = whole 0 (omega arith) in
@@ -34,6 +35,7 @@ ticks_fit j [] table = omega arith
 ticks_fit j (lane ∷ lanes) table =
     let all = ticks_before-all j (rounds_in (lane ∷ lanes)) (lane ∷ lanes) table.whole in
     let passed = ticks_before-le (lane ∷ lanes) table j (rounds_in (lane ∷ lanes)) (omega arith) in
-    let whole : end_after 0 (take (rounds_in (lane ∷ lanes)) lane) ≡ end_of (lane ∷ lanes) = ap (end_after 0) (take_all (rounds_in (lane ∷ lanes)) lane (omega arith)) in
+    let whole : end_after 0 (take (rounds_in (lane ∷ lanes)) lane) ≡ end_of (lane ∷ lanes) = ap (end_after 0) (take_all (rounds_in (lane ∷ lanes)) lane
+    (omega arith)) in
     let end = end_fits (lane ∷ lanes) (rounds_in (lane ∷ lanes)) table refl (omega arith) in
     omega (arith, all, passed, whole, end)

@@ -9,7 +9,8 @@ use Rattle.tree_laws.specs.Raised.{RatesFit}
 use Rattle.tree_laws.proofs.SetRates.{rates_fit}
 use Rattle.tree_laws.proofs.SetTree.{set_tree, set_tree_scale}
 
-module _ (s : SetContents) (scale processors : ℕ) (rates : List ℕ) (lawful : IsLawful s) (is : IsScale s.tasks scale) (fits : Fits scale s) (same : processors ≡ s.processors) (are : rates ≡ map (rate_of scale) s.tasks) where
+module _ (s : SetContents) (scale processors : ℕ) (rates : List ℕ) (lawful : IsLawful s) (is : IsScale s.tasks scale) (fits : Fits scale s)
+    (same : processors ≡ s.processors) (are : rates ≡ map (rate_of scale) s.tasks) where
   pub set_rates_fit : RatesFit processors scale rates
   set_rates_fit = subst₂ (λ m rs. RatesFit m scale rs) (sym same) (sym are) (rates_fit s scale lawful is fits)
 

@@ -1,5 +1,6 @@
 -- The levels above level 0, as they are made.
-use Rattle.std.proofs.Common.{◌≡◌, ℕ, zero, suc, ◌+◌, ◌-◌, ◌<◌, ◌≤◌, true, false, cond, List, [], ◌∷◌, ◌++◌, filter, map, length, get_or, take, nat_lt, refl, ap, arith, inl, inr, sym, subst, ◌∙◌}
+use Rattle.std.proofs.Common.{◌≡◌, ℕ, zero, suc, ◌+◌, ◌-◌, ◌<◌, ◌≤◌, true, false, cond, List, [], ◌∷◌, ◌++◌, filter, map, length, get_or, take}
+use Rattle.std.proofs.Common.{nat_lt, refl, ap, arith, inl, inr, sym, subst, ◌∙◌}
 use Rattle.std.proofs.Math.Seq.{take-suc}
 use Rattle.std.proofs.lemmas.Bool.{cases_Bool, cases_lt, ltb-true, lt-ltb, le-ltb}
 use Rattle.std.proofs.lemmas.List.{length-map, get_or-map, append-nil}
@@ -23,7 +24,8 @@ abbrev pub below : ℕ → ℕ → List ℕ → List ℕ
 below scale i rates = filter (λ r. nat_lt r scale) (take i rates)
 
 -- one rate more
-pub below-next : (scale i r : ℕ) (rates : List ℕ) → i < length rates → r ≡ get_or rates i 0 → r < scale → below scale (i + 1) rates ≡ below scale i rates ++ r ∷ []
+pub below-next : (scale i r : ℕ) (rates : List ℕ) → i < length rates → r ≡ get_or rates i 0 → r < scale → below scale (i + 1) rates ≡ below scale i
+    rates ++ r ∷ []
 below-next scale i r rates l is small =
     let next : i + 1 ≡ suc i = omega arith in
     let on : nat_lt (get_or rates i 0) scale ≡ true = ap (λ x. nat_lt x scale) (sym is) ∙ lt-ltb r scale small in
@@ -45,9 +47,11 @@ pub filter-rates : (f : ℕ → ℕ) (scale : ℕ) (packs : List ℕ) → filter
 filter-rates f scale [] = refl
 filter-rates f scale (p ∷ packs) =
     elim (cases_Bool (nat_lt (f p) scale)) [
-      | inl on ↦ ap (λ b. cond b (f p ∷ filter (λ r. nat_lt r scale) (map f packs)) (filter (λ r. nat_lt r scale) (map f packs))) on ∙ ap (λ xs. f p ∷ xs) (filter-rates f scale packs)
+      | inl on ↦ ap (λ b. cond b (f p ∷ filter (λ r. nat_lt r scale) (map f packs)) (filter (λ r. nat_lt r scale) (map f packs))) on ∙ ap (λ xs. f p ∷ xs)
+          (filter-rates f scale packs)
           ∙ sym (ap (λ b. map f (cond b (p ∷ filter (λ p. nat_lt (f p) scale) packs) (filter (λ p. nat_lt (f p) scale) packs))) on)
-      | inr off ↦ ap (λ b. cond b (f p ∷ filter (λ r. nat_lt r scale) (map f packs)) (filter (λ r. nat_lt r scale) (map f packs))) off ∙ filter-rates f scale packs
+      | inr off ↦ ap (λ b. cond b (f p ∷ filter (λ r. nat_lt r scale) (map f packs)) (filter (λ r. nat_lt r scale) (map f packs))) off ∙ filter-rates f
+          scale packs
           ∙ sym (ap (λ b. map f (cond b (p ∷ filter (λ p. nat_lt (f p) scale) packs) (filter (λ p. nat_lt (f p) scale) packs))) off)
     ]
 
@@ -95,11 +99,17 @@ duals_are m scale same = ap (λ s. duals_from s (lower_rates m)) (sym same) ∙ 
     go (p ∷ packs) = ap (λ xs. (m.tree.scale - rate m.tree p) ∷ xs) (go packs)
 
 -- what duals asks for, and what it gives
-pub lower_range : (m : Making) (scale : ℕ) (lower : List ℕ) → m.tree.scale ≡ scale → lower ≡ lower_rates m → ((k : ℕ) → k < length lower → 0 < get_or lower k 0) → All (λ r. (0 < r) × (r < scale)) lower
+pub lower_range : (m : Making) (scale : ℕ) (lower : List ℕ) → m.tree.scale ≡ scale → lower ≡ lower_rates m → ((k : ℕ) → k < length lower →
+    0 < get_or lower k 0) → All (λ r. (0 < r) × (r < scale)) lower
 lower_range m scale lower same is some =
-    All-from_get_or (λ r. (0 < r) × (r < scale)) lower 0 (λ k l. (some k l, (let count = ap length is in let b = lower_less m k (omega (arith, l, count)) in let e = ap (λ xs. get_or xs k 0) is in omega (arith, b, e, same))))
+    All-from_get_or (λ r. (0 < r) × (r < scale)) lower 0 (λ k l. (
+      some k l,
+      (let count = ap length is in let b = lower_less m k (omega (arith, l, count)) in
+          let e = ap (λ xs. get_or xs k 0) is in omega (arith, b, e, same)),
+    ))
 
-pub duals_range : (scale : ℕ) (lower duals : List ℕ) → duals ≡ duals_from scale lower → All (λ r. (0 < r) × (r < scale)) lower → All (λ r. (1 ≤ r) × (r ≤ scale)) duals
+pub duals_range : (scale : ℕ) (lower duals : List ℕ) → duals ≡ duals_from scale lower → All (λ r. (0 < r) × (r < scale)) lower →
+    All (λ r. (1 ≤ r) × (r ≤ scale)) duals
 duals_range scale lower duals is h =
     All-from_get_or (λ r. (1 ≤ r) × (r ≤ scale)) duals 0 (λ k l. (
     let long = ap length is in
@@ -111,7 +121,8 @@ duals_range scale lower duals is h =
     let less = b.1 in
     (omega (arith, e, some, less), omega (arith, e, some, less))))
 
-pub duals_long : (m : Making) (scale : ℕ) (lower duals : List ℕ) → lower ≡ lower_rates m → duals ≡ duals_from scale lower → length duals ≡ length (lower_packs m)
+pub duals_long : (m : Making) (scale : ℕ) (lower duals : List ℕ) → lower ≡ lower_rates m → duals ≡ duals_from scale lower →
+    length duals ≡ length (lower_packs m)
 duals_long m scale lower duals are is =
     let a = ap length is in
     let b = length-map lower (λ r. scale - r) in
@@ -192,7 +203,8 @@ module _ (processors scale : ℕ) (rates : List ℕ) (h : RatesFit processors sc
             subst P e (omega (arith, long, some)))
       ]
 
-  pub climb_next : (m after : Making) (lower rest : List ℕ) → IsClimbing first m lower → 0 < length lower → after ≡ lifted (lower_packs m) (homes scale (lower_duals m)) m → rest ≡ lower_rates after →
+  pub climb_next : (m after : Making) (lower rest : List ℕ) → IsClimbing first m lower → 0 < length lower → after ≡ lifted (lower_packs m)
+      (homes scale (lower_duals m)) m → rest ≡ lower_rates after →
       IsClimbing first after rest × (length rest < length lower)
   climb_next m after lower rest c some e are =
       let v0 = level_0_is processors scale rates h in
@@ -201,7 +213,8 @@ module _ (processors scale : ℕ) (rates : List ℕ) (h : RatesFit processors sc
       let same = (raised_above first v0 c.above c.up).scale_same ∙ (level_0_kept processors scale rates h).0 in
       let n : Making = raised c.above first in
       let is : after ≡ raised (suc c.above) first =
-      e ∙ ap (λ x. lifted (lower_packs x) (homes scale (lower_duals x)) x) c.is ∙ ap (λ s. lifted (lower_packs n) (homes s (lower_duals n)) n) (sym same) ∙ level_follows n v in
+      e ∙ ap (λ x. lifted (lower_packs x) (homes scale (lower_duals x)) x) c.is ∙ ap (λ s. lifted (lower_packs n) (homes s (lower_duals n)) n) (sym same)
+      ∙ level_follows n v in
       let next : IsClimbing first after rest = record { above = suc c.above; up = up; is = is; rates = are } in
       let fewer = raised_fewer first v0 c.above up in
       let left = raised_lower first v0 (suc c.above) in
@@ -213,5 +226,8 @@ module _ (processors scale : ℕ) (rates : List ℕ) (h : RatesFit processors sc
   climb_end m lower c none =
       let v0 = level_0_is processors scale rates h in
       let done : length (lower_packs (raised c.above first)) ≡ 0 = ap (λ n. length (lower_packs n)) (sym c.is) ∙ sym (lower_long m lower c) ∙ none in
-      let P : Making → Type 0 = λ n. IsTree n.tree in
-      (ap (λ (n : Making). n.tree) c.is ∙ sym (last_level processors scale rates h c.above c.up done), subst P (sym c.is) (is_tree (raised c.above first) (raised_level first v0 c.above c.up) done))
+      let P : Making → Type 0 = λ n. IsTree n.tree in (
+        ap (λ (n : Making). n.tree) c.is ∙ sym (last_level processors scale rates h c.above c.up done),
+        subst P (sym c.is) (is_tree (raised c.above first)
+            (raised_level first v0 c.above c.up) done),
+      )

@@ -1,5 +1,6 @@
 -- Level 0 as it is made, leaf by leaf.
-use Rattle.std.proofs.Common.{◌≡◌, ℕ, zero, suc, ◌+◌, ◌-◌, ◌*◌, ◌<◌, ◌≤◌, List, [], ◌∷◌, drop, map, length, get_or, take, min, sum, refl, ap, ap₂, arith, sym, subst, ◌∙◌}
+use Rattle.std.proofs.Common.{◌≡◌, ℕ, zero, suc, ◌+◌, ◌-◌, ◌*◌, ◌<◌, ◌≤◌, List, [], ◌∷◌, drop, map, length, get_or, take, min, sum, refl, ap, ap₂}
+use Rattle.std.proofs.Common.{arith, sym, subst, ◌∙◌}
 use Rattle.std.proofs.Math.Seq.{drop-cons}
 use Rattle.std.proofs.lemmas.List.{length-map, get_or-map}
 use Rattle.sched_base.specs.FirstFit.{packed, homes, idles}
@@ -21,7 +22,8 @@ use Rattle.tree_laws.proofs.IdleSteps.{IsFilling, idle_skip, idle_may_come, idle
 abbrev pub Holds : ℕ → ℕ → List ℕ → ℕ → Making → Type 0
 Holds processors scale rates j m = m ≡ pack_items (task_items 0 (take j rates)) (started processors scale)
 
-module _ (processors scale : ℕ) (rates told : List ℕ) (h : RatesFit processors scale rates) (are : told ≡ homes scale rates) (m : Making) (j : ℕ) (is : Holds processors scale rates j m) (l : j < length rates) where
+module _ (processors scale : ℕ) (rates told : List ℕ) (h : RatesFit processors scale rates) (are : told ≡ homes scale rates) (m : Making) (j : ℕ)
+    (is : Holds processors scale rates j m) (l : j < length rates) where
   pub task_asks : MayCome m (get_or rates j 0) (get_or told j 0)
   task_asks =
       let P : Making → ℕ → Type 0 = λ n b. MayCome n (get_or rates j 0) b in
@@ -44,7 +46,8 @@ abbrev pub idles_of : List Server → List ℕ
 idles_of servers = map (λ (s : Server). s.idle) servers
 
 -- what a filled packing tells
-pub idles_told : (scale slack : ℕ) (servers : List Server) → idles_of (with_idles (idles scale slack (rates_of servers)) servers) ≡ idles scale slack (rates_of servers)
+pub idles_told : (scale slack : ℕ) (servers : List Server) → idles_of (with_idles (idles scale slack (rates_of servers)) servers) ≡ idles scale slack
+    (rates_of servers)
 idles_told scale slack [] = each (idles scale slack [])
   where
     each : (rates : List ℕ) → idles_of (map idle_alone rates) ≡ rates
@@ -56,7 +59,8 @@ idles_told scale slack (s ∷ servers) = ap (λ xs. min (scale - s.rate) slack �
 abbrev pub asked_of : ℕ → ℕ → List ℕ → List ℕ
 asked_of processors scale rates = idles scale (processors * scale - sum rates) (packed scale rates)
 
-pub idles_asked : (processors scale : ℕ) (rates : List ℕ) (servers filled : List Server) → rates_of servers ≡ packed scale rates → rate_sum servers ≡ sum rates →
+pub idles_asked : (processors scale : ℕ) (rates : List ℕ) (servers filled : List Server) → rates_of servers ≡ packed scale rates → rate_sum servers ≡ sum
+    rates →
     filled ≡ with_idles (idles scale (processors * scale - rate_sum servers) (rates_of servers)) servers → idles_of filled ≡ asked_of processors scale rates
 idles_asked processors scale rates servers filled are total is =
     ap idles_of is ∙ idles_told scale (processors * scale - rate_sum servers) servers ∙ ap₂ (λ t rs. idles scale (processors * scale - t) rs) total are
@@ -67,13 +71,15 @@ idle_told servers asked s e l = sym (get_or-map (λ (x : Server). x.idle) server
 pub idles_long : (servers : List Server) (asked : List ℕ) → idles_of servers ≡ asked → length servers ≡ length asked
 idles_long servers asked e = sym (length-map servers (λ (x : Server). x.idle)) ∙ ap length e
 
-pub asked_limit : (processors scale : ℕ) (rates : List ℕ) → RatesFit processors scale rates → processors ≤ 32 → length rates ≤ 256 → length (asked_of processors scale rates) ≤ 256
+pub asked_limit : (processors scale : ℕ) (rates : List ℕ) → RatesFit processors scale rates → processors ≤ 32 → length rates ≤ 256 →
+    length (asked_of processors scale rates) ≤ 256
 asked_limit processors scale rates h few tasks =
     let a = asked_few processors scale rates h in
     let b = servers_few scale rates in
     omega (arith, a, b, few, tasks)
 
-module _ (whole m : Making) (tasks s k rate : ℕ) (asked : List ℕ) (h : IsFilling whole tasks s k (drop s asked) m) (l : s < length asked) (is : rate ≡ get_or asked s 0) where
+module _ (whole m : Making) (tasks s k rate : ℕ) (asked : List ℕ) (h : IsFilling whole tasks s k (drop s asked) m) (l : s < length asked)
+    (is : rate ≡ get_or asked s 0) where
   pub next_asked : IsFilling whole tasks s k (rate ∷ drop (suc s) asked) m
   next_asked =
       let P : List ℕ → Type 0 = λ xs. IsFilling whole tasks s k xs m in

@@ -538,11 +538,13 @@ module _ {G J : Type 0} (ran : G → Option (List Row)) (gate_faults : G → ℕ
       pub gate_by : GateStopped p window old new x
       gate_by =
           let here =
-          at_gate in gate_stopped ran gate_faults id used made job_faults p window h kits kits' places places' filled fresh names here.0 here.1 q x here.2.0 here.2.1
+          at_gate in gate_stopped ran gate_faults id used made job_faults p window h kits kits' places places' filled fresh names here.0 here.1 q x here.2.0
+          here.2.1
 
       pub gate_named : NamesOneOf p.set.tasks x.leaf
       gate_named =
-          let here = at_gate in gate_names ran gate_faults id used made job_faults p window h kits kits' places places' filled fresh names here.0 here.1 q x here.2.0
+          let here = at_gate in gate_names ran gate_faults id used made job_faults p window h kits kits' places places' filled fresh names here.0 here.1 q x
+          here.2.0
 
     module _ (t q : ℕ) (x : Row) (n : ℕ) (is : result ≡ Err (fault.Job t q x n)) where
       at_job : Outcome ran gate_faults id used made job_faults p window kits kits' places places' (Err (fault.Job t q x n))
@@ -557,4 +559,5 @@ module _ {G J : Type 0} (ran : G → Option (List Row)) (gate_faults : G → ℕ
       pub job_named : NamesOneOf p.set.tasks x.leaf
       job_named =
           let here =
-          at_job in job_names ran gate_faults id used made job_faults p window h kits kits' places places' filled fresh names here.0 here.1 q t here.2.1.0 x here.2.1.1
+          at_job in job_names ran gate_faults id used made job_faults p window h kits kits' places places' filled fresh names here.0 here.1 q t here.2.1.0 x
+          here.2.1.1

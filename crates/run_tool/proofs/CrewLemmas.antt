@@ -100,7 +100,8 @@ later_gate None before now e = omega (arith, e)
 later_gate (Some (cause.Gate r)) before now e = e.later
 later_gate (Some (cause.Job r faults)) before now e = omega (arith, e)
 
-module _ {G J : Type 0} (ran : G → Option (List Row)) (gate_faults : G → ℕ) (id used : J → ℕ) (made : J → Made) (job_faults : J → ℕ) (p : PlanContents) (window : ℕ)
+module _ {G J : Type 0} (ran : G → Option (List Row)) (gate_faults : G → ℕ) (id used : J → ℕ) (made : J → Made) (job_faults : J → ℕ) (p : PlanContents)
+    (window : ℕ)
     (kits kits' : List (Kit G)) (places places' : List (Option J)) (lanes : List LaneContents)
     (r : Ran ran gate_faults id used made job_faults p window kits kits' places places' lanes) where
   -- each gate is back in its kit, and each job in its place
@@ -182,7 +183,8 @@ module _ {G J : Type 0} (ran : G → Option (List Row)) (gate_faults : G → ℕ
         ]
 
 -- kits and places that are as before are back
-pub back_kept : {G J : Type 0} (ran : G → Option (List Row)) (gate_faults : G → ℕ) (id used : J → ℕ) (made : J → Made) (job_faults : J → ℕ) (kits kits' : List (Kit G))
+pub back_kept : {G J : Type 0} (ran : G → Option (List Row)) (gate_faults : G → ℕ) (id used : J → ℕ) (made : J → Made) (job_faults : J → ℕ)
+    (kits kits' : List (Kit G))
     (places places' : List (Option J)) → (kits' ≡ kits) × (places' ≡ places)
     → AreBack (crew (gates_of ran gate_faults kits) (jobs_of id used job_faults made places))
     (crew (gates_of ran gate_faults kits') (jobs_of id used job_faults made places'))

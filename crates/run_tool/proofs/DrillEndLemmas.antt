@@ -48,7 +48,8 @@ module _ (number : ℕ) (p : PlanContents) (plan : p ≡ plan_of (drilled number
       IfErr-weaker result _ _ (λ r why. untold old new out out' faults faults' r is_scale ran why) stops
 
   -- not all was run
-  pub unrun : (old new : Crew) (out : Option (List ℕ)) (faults : ℕ) (r : Refusal) → IsScale (drilled number).tasks p.tree.scale → StopsInRun p usual_window old new r
+  pub unrun : (old new : Crew) (out : Option (List ℕ)) (faults : ℕ) (r : Refusal) → IsScale (drilled number).tasks p.tree.scale → StopsInRun p usual_window
+      old new r
       → (r ≡ why.NoMemory → new ≡ old) → StopsAtDrill number out out faults faults old new r
   unrun old new out faults (why.GateFault row name) is_scale stops left =
       ((p.tree.scale, is_scale, subst (λ (q : PlanContents). StopsInRun q usual_window old new (why.GateFault row name)) plan stops), keeps_same out)

@@ -123,7 +123,8 @@ wanting_by : (e : Execution) (left : Option (List ℕ)) (old new : Streams) (sta
     → AnswersAs set_limit (CallsForExecution e) (RefusesExecution e) left old new status
 wanting_by e left old new status wanting = wanting_asked set_limit (CallsForExecution e) (RefusesExecution e) left old new status wanting
 
-wanting_answers : (e : Execution) (left : Option (List ℕ)) (old new : Streams) (status : Status) → status ≡ NoMemory → IsCommandAnswered (Some (Execute e)) left old new status
+wanting_answers : (e : Execution) (left : Option (List ℕ)) (old new : Streams) (status : Status) → status ≡ NoMemory → IsCommandAnswered (Some (Execute e))
+    left old new status
 wanting_answers (Exec window) left old new status wanting = wanting_by (Exec window) left old new status wanting
 wanting_answers ExecMet left old new status wanting = wanting_by ExecMet left old new status wanting
 wanting_answers Jobs left old new status wanting = wanting_by Jobs left old new status wanting

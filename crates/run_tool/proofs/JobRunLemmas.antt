@@ -1,5 +1,6 @@
 -- How `jobs` ends, part by part: reading the text, loading the programs, running the schedule, and writing what was computed.
-use Rattle.std.proofs.Common.{◌≡◌, ◌≢◌, inl, inr, ℕ, ◌+◌, ◌*◌, ◌/◌, ◌≤◌, ◌<◌, true, false, List, length, take, Option, Some, Ok, Err, refl, sym, ◌∙◌, ap, subst, arith}
+use Rattle.std.proofs.Common.{◌≡◌, ◌≢◌, inl, inr, ℕ, ◌+◌, ◌*◌, ◌/◌, ◌≤◌, ◌<◌, true, false, List, length, take, Option, Some, Ok, Err, refl, sym, ◌∙◌}
+use Rattle.std.proofs.Common.{ap, subst, arith}
 use Rattle.std.proofs.lemmas.List.{take_all}
 use Rattle.std.specs.Io.KnownBytes.{Appends, Keeps}
 use Rattle.sched_base.specs.Sets.{SetContents}
@@ -91,7 +92,8 @@ pub loading_stops : (text : JobTextHeld) (out : Option (List ℕ)) (faults scale
 loading_stops text out faults scale n old new s run is = (inr (scale, n, run, is), keeps_same out)
 
 -- where a gate or a job failed, or memory was refused, something may have been done
-pub jobs_called : {P : Type 0} (p : PlanContents) (old new : Crew) (r : Refusal) → StopsInRun p usual_window old new r → may_have_run (Some (Execute Jobs)) (status_of r) ≡ false → P
+pub jobs_called : {P : Type 0} (p : PlanContents) (old new : Crew) (r : Refusal) → StopsInRun p usual_window old new r → may_have_run (Some (Execute Jobs))
+    (status_of r) ≡ false → P
 jobs_called p old new (why.GateFault row name) stops quiet = absurd (let bad : true ≡ false = quiet in cc)
 jobs_called p old new (why.JobFault row name) stops quiet = absurd (let bad : true ≡ false = quiet in cc)
 jobs_called p old new why.NoMemory stops quiet = absurd (let bad : true ≡ false = quiet in cc)
@@ -159,7 +161,8 @@ module _ (text : JobTextHeld) (s : SetContents) (p : PlanContents) (is_set : p.s
 
   -- what is written is the text of the results
   told_are : (old new : Crew) (scale : ℕ) (set : SetContents) → scale ≡ p.tree.scale → set ≡ p.set → length s.tasks ≤ 256 → IsFreshCrew old
-      → RanAll p (loaded_crew text.programs p.tree.scale s.tasks old) new → jobs_text (told_at scale new.jobs) set.tasks ≡ result_text text (plan_of s p.tree.scale) old.jobs
+      → RanAll p (loaded_crew text.programs p.tree.scale s.tasks old) new → jobs_text (told_at scale new.jobs) set.tasks ≡ result_text text
+      (plan_of s p.tree.scale) old.jobs
   told_are old new scale set scale_is set_is few ready ran =
       (λ i. jobs_text (told_at (scale_is i) new.jobs) (set_is i).tasks)
       ∙ (results_are text p old new (subst (λ (x : SetContents). length x.tasks ≤ 256) (sym is_set) few) ready
@@ -167,7 +170,8 @@ module _ (text : JobTextHeld) (s : SetContents) (p : PlanContents) (is_set : p.s
       ∙ ap (λ (q : PlanContents). result_text text q old.jobs) same)
 
   -- all was run and written
-  pub jobs_ran : (out out' : Option (List ℕ)) (count : ℕ) (old held new : Crew) (scale : ℕ) (set : SetContents) → IsSchedulable s p.tree.scale → count ≡ rounds_of p
+  pub jobs_ran : (out out' : Option (List ℕ)) (count : ℕ) (old held new : Crew) (scale : ℕ) (set : SetContents) → IsSchedulable s p.tree.scale →
+      count ≡ rounds_of p
       → count * p.tree.processors ≤ row_limit → scale ≡ p.tree.scale → set ≡ p.set → length s.tasks ≤ 256 → IsFreshCrew old
       → held ≡ loaded_crew text.programs p.tree.scale s.tasks old → RanAll p held new
       → Appends out out' (jobs_text (told_at scale new.jobs) set.tasks) → RanJobs text out out' old new s
@@ -181,10 +185,12 @@ module _ (text : JobTextHeld) (s : SetContents) (p : PlanContents) (is_set : p.s
       )
 
   -- all was run, and not all was written
-  pub jobs_unwritten : (out out' : Option (List ℕ)) (faults faults' count : ℕ) (old held new : Crew) (scale : ℕ) (set : SetContents) → IsSchedulable s p.tree.scale
+  pub jobs_unwritten : (out out' : Option (List ℕ)) (faults faults' count : ℕ) (old held new : Crew) (scale : ℕ) (set : SetContents) →
+      IsSchedulable s p.tree.scale
       → count ≡ rounds_of p → count * p.tree.processors ≤ row_limit → scale ≡ p.tree.scale → set ≡ p.set → length s.tasks ≤ 256 → IsFreshCrew old
       → held ≡ loaded_crew text.programs p.tree.scale s.tasks old → RanAll p held new
-      → TookPart out out' (jobs_text (told_at scale new.jobs) set.tasks) → Rose faults faults' → StopsAtJobs text out out' faults faults' old new s why.WriteFault
+      → TookPart out out' (jobs_text (told_at scale new.jobs) set.tasks) → Rose faults faults' → StopsAtJobs text out out' faults faults' old new s
+      why.WriteFault
   jobs_unwritten out out' faults faults' count old held new scale set run is few scale_is set_is count_few ready held_is ran took rose =
       let all = subst (λ (x : Crew). RanAll p x new) held_is ran in (
         p.tree.scale,
@@ -198,7 +204,8 @@ module _ (text : JobTextHeld) (s : SetContents) (p : PlanContents) (is_set : p.s
 -- ---- the whole
 
 -- a job text that was read is one to run
-to_run : (bytes : List ℕ) (text : JobTextHeld) (s : SetContents) (scale : ℕ) → ReadsJobs bytes text s → IsSchedulable s scale → HasRoom (schedule_rows false) s scale
+to_run : (bytes : List ℕ) (text : JobTextHeld) (s : SetContents) (scale : ℕ) → ReadsJobs bytes text s → IsSchedulable s scale →
+    HasRoom (schedule_rows false) s scale
     → IsJobsToRun bytes text s scale
 to_run bytes text s scale reads run room =
     record { reads = reads; scaled = record { read = reads.set; is_scale = run.is_scale; within = run.within }; fits = run.fits; room = room }
@@ -216,8 +223,18 @@ pub jobs_stopped : (old new : Streams) (b n : Crew) (text : JobTextHeld) (s : Se
     → StopsAtJobs text old.out new.out old.out_faults new.out_faults b n s r → StopsRun Jobs old new b n r
 jobs_stopped old new b n text s why.WriteFault gave stops =
     let (bytes, all, reads) = gave.gave in
-    let (scale, run, room, took, rose, rows) = stops in
-    ((bytes, result_text text (plan_of s scale) b.jobs, Done, all, (refl, (text, s, scale, to_run bytes text s scale reads run room, refl, rows)), took, rose), tt)
+    let (scale, run, room, took, rose, rows) = stops in (
+      (
+        bytes,
+        result_text text (plan_of s scale) b.jobs,
+        Done,
+        all,
+        (refl, (text, s, scale, to_run bytes text s scale reads run room, refl, rows)),
+        took,
+        rose,
+      ),
+      tt,
+    )
 jobs_stopped old new b n text s (why.GateFault row name) gave stops =
     let (bytes, all, reads) = gave.gave in
     let (scale, run, room, stopped, keeps) = stops in

@@ -52,7 +52,8 @@ as_jobs bytes (why.BadProgram line) refuses = inl (line, refl, refuses)
 as_jobs bytes (why.BadSet q) refuses = inr (inl (q, refl, refuses))
 as_jobs bytes _ refuses = inr (inr refuses)
 
-no_bad_set : (bytes : List ℕ) (t u : JobTextHeld) (s : SetContents) (q : ReadSet) → ReadsJobs bytes t s → job_reading bytes ≡ Ok u → set_read_from (set_bytes u bytes) ≡ Err q → ⊥
+no_bad_set : (bytes : List ℕ) (t u : JobTextHeld) (s : SetContents) (q : ReadSet) → ReadsJobs bytes t s → job_reading bytes ≡ Ok u →
+    set_read_from (set_bytes u bytes) ≡ Err q → ⊥
 no_bad_set bytes t u s q reads read set = ok_is_no_fault (same_job_set bytes t u (Err q) s reads read set)
 
 -- nothing is told of the jobs of bytes that are refused
@@ -69,7 +70,8 @@ jobs_or_refused bytes t s scale r run refuses =
     ]
 
 -- a bad program isn't a bad set
-no_both : (bytes : List ℕ) (u : JobTextHeld) (line : ℕ) (q : ReadSet) → HasBadProgram bytes line → job_reading bytes ≡ Ok u → set_read_from (set_bytes u bytes) ≡ Err q → ⊥
+no_both : (bytes : List ℕ) (u : JobTextHeld) (line : ℕ) (q : ReadSet) → HasBadProgram bytes line → job_reading bytes ≡ Ok u →
+    set_read_from (set_bytes u bytes) ≡ Err q → ⊥
 no_both bytes u line q (inl stops) read set = ok_is_no_fault (sym read ∙ stops)
 no_both bytes u line q (inr stray) read set =
     let (t, s, there, ok, strays) = stray in

@@ -1,5 +1,6 @@
 -- Gates and jobs whose programs were loaded, and what is told of them after a run.
-use Rattle.std.proofs.Common.{ℕ, zero, suc, ◌+◌, ◌/◌, ◌<◌, ◌≤◌, ◌≡◌, List, [], ◌∷◌, ◌++◌, length, Option, Some, None, option_map, refl, sym, ap, ◌∙◌, subst, arith}
+use Rattle.std.proofs.Common.{ℕ, zero, suc, ◌+◌, ◌/◌, ◌<◌, ◌≤◌, ◌≡◌, List, [], ◌∷◌, ◌++◌, length, Option, Some, None, option_map, refl, sym, ap, ◌∙◌}
+use Rattle.std.proofs.Common.{subst, arith}
 use Rattle.std.specs.Prelude.{codes, option_and_then, slice_get}
 use Rattle.sched_edges.specs.Lines.{word_line}
 use Rattle.std.specs.List.{flat_map, range_with_len}
@@ -36,12 +37,16 @@ pub loaded_held : (scale : ℕ) (programs : List Program) (tasks : List Task) (j
 loaded_held scale programs [] jobs i j at = (j, at, same_job j)
 loaded_held scale programs (t ∷ tasks) [] i j at = absurd (let bad : ◌≡◌ {A = Option (Option JobSeen)} None (Some (Some j)) = at in cc)
 loaded_held scale programs (t ∷ tasks) (place ∷ jobs) zero j at =
-    let here : place ≡ Some j = cc in
-    (anew scale (code_of programs t.name) j, ap (λ (o : Option JobSeen). Some (option_map (anew scale (code_of programs t.name)) o)) here, record { id = refl; faults = refl; unused = λ none. refl })
+    let here : place ≡ Some j = cc in (
+      anew scale (code_of programs t.name) j,
+      ap (λ (o : Option JobSeen). Some (option_map (anew scale (code_of programs t.name)) o)) here,
+      record { id = refl; faults = refl; unused = λ none. refl },
+    )
 loaded_held scale programs (t ∷ tasks) (place ∷ jobs) (suc i) j at = loaded_held scale programs tasks jobs i j at
 
 -- the job of a task begins anew
-pub loaded_at : (scale : ℕ) (programs : List Program) (tasks : List Task) (jobs : List (Option JobSeen)) (i : ℕ) (j : JobSeen) → i < length tasks → Holds jobs i j
+pub loaded_at : (scale : ℕ) (programs : List Program) (tasks : List Task) (jobs : List (Option JobSeen)) (i : ℕ) (j : JobSeen) → i < length tasks →
+    Holds jobs i j
     → Holds (loaded scale programs tasks jobs) i (anew scale (code_of programs (task_at tasks i).name) j)
 loaded_at scale programs [] jobs i j within at = absurd (omega arith)
 loaded_at scale programs (t ∷ tasks) [] i j within at = absurd (let bad : ◌≡◌ {A = Option (Option JobSeen)} None (Some (Some j)) = at in cc)
@@ -51,7 +56,8 @@ loaded_at scale programs (t ∷ tasks) (place ∷ jobs) zero j within at =
 loaded_at scale programs (t ∷ tasks) (place ∷ jobs) (suc i) j within at = loaded_at scale programs tasks jobs i j (omega arith) at
 
 -- and each job was there before
-pub unloaded : (scale : ℕ) (programs : List Program) (tasks : List Task) (jobs : List (Option JobSeen)) (i : ℕ) (k : JobSeen) → Holds (loaded scale programs tasks jobs) i k
+pub unloaded : (scale : ℕ) (programs : List Program) (tasks : List Task) (jobs : List (Option JobSeen)) (i : ℕ) (k : JobSeen) →
+    Holds (loaded scale programs tasks jobs) i k
     → (j : JobSeen) × Holds jobs i j × (k.faults ≡ j.faults)
 unloaded scale programs [] jobs i k at = (k, at, refl)
 unloaded scale programs (t ∷ tasks) [] i k at = absurd (let bad : ◌≡◌ {A = Option (Option JobSeen)} None (Some (Some k)) = at in cc)
@@ -62,7 +68,8 @@ unloaded scale programs (t ∷ tasks) (Some j ∷ jobs) zero k at =
     (j, refl, sym (ap (λ (x : JobSeen). x.faults) same))
 unloaded scale programs (t ∷ tasks) (place ∷ jobs) (suc i) k at = unloaded scale programs tasks jobs i k at
 
-length-loaded : (scale : ℕ) (programs : List Program) (tasks : List Task) (jobs : List (Option JobSeen)) → length (loaded scale programs tasks jobs) ≡ length jobs
+length-loaded : (scale : ℕ) (programs : List Program) (tasks : List Task) (jobs : List (Option JobSeen)) → length (loaded scale programs tasks jobs)
+    ≡ length jobs
 length-loaded scale programs [] jobs = refl
 length-loaded scale programs (t ∷ tasks) [] = refl
 length-loaded scale programs (t ∷ tasks) (job ∷ jobs) = ap suc (length-loaded scale programs tasks jobs)
@@ -99,31 +106,36 @@ back_alone text scale tasks c = record {
 }
 
 -- the same of the moment at which the programs are loaded
-pub ready_at : (text : JobTextHeld) (scale : ℕ) (tasks : List Task) (old held : Crew) → held ≡ loaded_crew text.programs scale tasks old → IsFreshCrew old → IsFreshCrew held
+pub ready_at : (text : JobTextHeld) (scale : ℕ) (tasks : List Task) (old held : Crew) → held ≡ loaded_crew text.programs scale tasks old → IsFreshCrew old →
+    IsFreshCrew held
 ready_at text scale tasks old held is ready = subst (λ (x : Crew). IsFreshCrew x) (sym is) (ready_loaded text scale tasks old ready)
 
 pub back_at : (text : JobTextHeld) (scale : ℕ) (tasks : List Task) (old new : Crew) → new ≡ loaded_crew text.programs scale tasks old → AreBack old new
 back_at text scale tasks old new is = subst (λ (x : Crew). AreBack old x) (sym is) (back_alone text scale tasks old)
 
-pub back_by_run : (text : JobTextHeld) (scale : ℕ) (tasks : List Task) (old held new : Crew) → held ≡ loaded_crew text.programs scale tasks old → AreBack held new → AreBack old new
+pub back_by_run : (text : JobTextHeld) (scale : ℕ) (tasks : List Task) (old held new : Crew) → held ≡ loaded_crew text.programs scale tasks old →
+    AreBack held new → AreBack old new
 back_by_run text scale tasks old held new is back = back_loaded text scale tasks old new (subst (λ (x : Crew). AreBack x new) is back)
 
 -- kits and places that are as before show the same
 pub crew_left : {G J : Type 0} (ran : G → Option (List Row)) (gate_faults : G → ℕ) (id used : J → ℕ) (made : J → Made) (job_faults : J → ℕ)
     (kits kits' : List (Kit G)) (places places' : List (Option J)) → (kits' ≡ kits) × (places' ≡ places)
-    → crew (gates_of ran gate_faults kits') (jobs_of id used job_faults made places') ≡ crew (gates_of ran gate_faults kits) (jobs_of id used job_faults made places)
+    → crew (gates_of ran gate_faults kits') (jobs_of id used job_faults made places') ≡ crew (gates_of ran gate_faults kits) (jobs_of id used job_faults
+    made places)
 crew_left ran gate_faults id used made job_faults kits kits' places places' same =
     (λ i. crew (gates_of ran gate_faults (same.0 i)) (jobs_of id used job_faults made (same.1 i)))
 
 -- a job that failed after the loading failed
-pub rose_loaded : (text : JobTextHeld) (scale : ℕ) (tasks : List Task) (c now : Crew) (i : ℕ) → JobRose (loaded_crew text.programs scale tasks c) now i → JobRose c now i
+pub rose_loaded : (text : JobTextHeld) (scale : ℕ) (tasks : List Task) (c now : Crew) (i : ℕ) → JobRose (loaded_crew text.programs scale tasks c) now i →
+    JobRose c now i
 rose_loaded text scale tasks c now i rose =
     let (k, l, at, here, more) = rose in
     let (j, there, same) = unloaded scale text.programs tasks c.jobs i k at in
     (j, l, there, here, rw (← same) more)
 
 -- after a run there is a job in the place of each task
-pub jobs_there : {J : Type 0} (id used faults : J → ℕ) (made : J → Made) (places : List (Option J)) (gates : List (Option GateSeen)) (old : Crew) → IsFreshCrew old
+pub jobs_there : {J : Type 0} (id used faults : J → ℕ) (made : J → Made) (places : List (Option J)) (gates : List (Option GateSeen)) (old : Crew) →
+    IsFreshCrew old
     → AreBack old (crew gates (jobs_of id used faults made places)) → (n : ℕ) → n ≤ 256 → (i : ℕ) → i < n → (job : J) × JobAt places i job
 jobs_there id used faults made places gates old ready back n few i within =
     let (j, at, own, none) = ready.jobs i (omega (arith, few, within)) in
@@ -134,12 +146,14 @@ jobs_there id used faults made places gates old ready back n few i within =
 -- ---- what is told after a run
 
 -- a text of one part for each number goes by the parts alone
-same_parts : (f g : ℕ → List ℕ) (start n : ℕ) → ((k : ℕ) → k < n → f (start + k) ≡ g (start + k)) → flat_map f (range_with_len start n) ≡ flat_map g (range_with_len start n)
+same_parts : (f g : ℕ → List ℕ) (start n : ℕ) → ((k : ℕ) → k < n → f (start + k) ≡ g (start + k)) → flat_map f (range_with_len start n) ≡ flat_map g
+    (range_with_len start n)
 same_parts f g start zero same = refl
 same_parts f g start (suc n) same =
     let at : start + 0 ≡ start = omega arith in
     let first : f start ≡ g start = subst (λ k. f k ≡ g k) at (same 0 (omega arith)) in
-    let rest = same_parts f g (start + 1) n (λ k within. let one : start + suc k ≡ start + 1 + k = omega arith in subst (λ m. f m ≡ g m) one (same (suc k) (omega (arith, within)))) in
+    let rest = same_parts f g (start + 1) n (λ k within. let one : start + suc k ≡ start + 1 + k = omega arith in subst (λ m. f m ≡ g m) one
+    (same (suc k) (omega (arith, within)))) in
     (λ i. first i ++ rest i)
 
 pub same_results : (told told' : ℕ → Told) (tasks : List Task) → ((i : ℕ) → i < length tasks → told i ≡ told' i) → jobs_text told tasks ≡ jobs_text told' tasks
@@ -182,7 +196,8 @@ told_is text p old new i j within at ran =
 
 -- what is written of the jobs after a run is what is told of the tasks
 pub results_are : (text : JobTextHeld) (p : PlanContents) (old new : Crew) → length p.set.tasks ≤ 256 → IsFreshCrew old
-    → RanAll p (loaded_crew text.programs p.tree.scale p.set.tasks old) new → jobs_text (told_at p.tree.scale new.jobs) p.set.tasks ≡ result_text text p old.jobs
+    → RanAll p (loaded_crew text.programs p.tree.scale p.set.tasks old) new → jobs_text (told_at p.tree.scale new.jobs) p.set.tasks ≡ result_text text p
+    old.jobs
 results_are text p old new few ready ran =
     same_results (told_at p.tree.scale new.jobs) (told_of_task text.programs p old.jobs) p.set.tasks
     (λ i within. let (j, at, own, none) = ready.jobs i (omega (arith, few, within)) in told_is text p old new i j within at ran)

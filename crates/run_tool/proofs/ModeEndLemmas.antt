@@ -150,7 +150,8 @@ unread_piece left left' limit faults faults' bytes why.NoMemory all refused = tt
 unread_piece left left' limit faults faults' bytes _ all refused = absurd refused
 
 -- the sets can't be joined
-pub unjoined : (left left' : Option (List ℕ)) (limit faults faults' : ℕ) (bytes : List ℕ) (sets : List SetContents) (e : ModeFault) → GaveAll left left' limit bytes
+pub unjoined : (left left' : Option (List ℕ)) (limit faults faults' : ℕ) (bytes : List ℕ) (sets : List SetContents) (e : ModeFault) →
+    GaveAll left left' limit bytes
     → ReadsSets bytes sets → SaysOf sets e → GaveNoModes left left' faults faults' limit (of_join e)
 unjoined left left' limit faults faults' bytes sets (join.Refused j k) all reads says = (bytes, all, (sets, reads, says))
 unjoined left left' limit faults faults' bytes sets join.NoMemory all reads says = tt

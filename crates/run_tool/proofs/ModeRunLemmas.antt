@@ -1,5 +1,6 @@
 -- What running modes does to the gates and to the jobs, as the crew shows it.
-use Rattle.std.proofs.Common.{◌≡◌, ◌⊎◌, inl, inr, ℕ, zero, suc, ◌+◌, ◌≤◌, ◌<◌, true, false, Bool, if◌then◌else◌, List, [], ◌∷◌, ◌++◌, Option, Some, None, Result, Ok, Err}
+use Rattle.std.proofs.Common.{◌≡◌, ◌⊎◌, inl, inr, ℕ, zero, suc, ◌+◌, ◌≤◌, ◌<◌, true, false, Bool, if◌then◌else◌, List, [], ◌∷◌, ◌++◌, Option, Some}
+use Rattle.std.proofs.Common.{None, Result, Ok, Err}
 use Rattle.std.proofs.Common.{option_map, length, take, refl, sym, ◌∙◌, ap, subst, arith, append_assoc, append-nil}
 use Rattle.std.specs.Prelude.{slice_get, nat_lt}
 use Rattle.std.specs.List.{AllByRecursion}
@@ -31,7 +32,8 @@ use Rattle.mode_switch.specs.declared.answers.ModesFault.TheVariants as fault
 use Rattle.mode_switch.specs.Runs as modes
 use Rattle.pure_commands.specs.declared.mode_refusal.ModeRefusal.{ModeRefusal}
 use Rattle.pure_commands.specs.declared.mode_refusal.ModeRefusal.TheVariants as mode
-use Rattle.run_tool.specs.Executions.{GateSeen, JobSeen, Crew, gates_of, jobs_of, Holds, IsFreshCrew, AreBack, RanAll, GateRose, JobRose, GateStopped, JobStopped, name_at}
+use Rattle.run_tool.specs.Executions.{GateSeen, JobSeen, Crew, gates_of, jobs_of, Holds, IsFreshCrew, AreBack, RanAll, GateRose, JobRose, GateStopped}
+use Rattle.run_tool.specs.Executions.{JobStopped, name_at}
 use Rattle.run_tool.proofs.CrewMade.{crew}
 use Rattle.run_tool.specs.ModeRuns.{made_after, RanThrough, StopsInMode, StopsBetween}
 use Rattle.run_tool.specs.Executions.{loaded_crew}
@@ -162,7 +164,8 @@ module _ {G J : Type 0} (gate : GateTells G) (job : JobTells J)
       let (x, there, same) = gate_in_kit gate.ran gate.faults r.kits q g at in
       (x, there)
 
-  module _ (p : PlanContents) (h : IsPlan p) (old begun : CrewHeld G J) (begins : modes.HasBegun job p.set.tasks old begun) (staffed : IsStaffed (crew_at old)) where
+  module _ (p : PlanContents) (h : IsPlan p) (old begun : CrewHeld G J) (begins : modes.HasBegun job p.set.tasks old begun)
+      (staffed : IsStaffed (crew_at old)) where
     begun_is : crew_at begun ≡ loaded_crew [] 1 p.set.tasks (crew_at old)
     begun_is = λ i. crew (gates_of gate.ran gate.faults (begins.gates i)) (begins.jobs i)
 

@@ -101,7 +101,8 @@ kind_at (kind.Period task) = refl
 kind_at (kind.Overload total room) = refl
 kind_at (kind.TooLong rows) = refl
 
-one_kind : (sets : List SetContents) (i j : ℕ) (k l : ModeKind) → IsFirstFlaw sets i k → IsFirstFlaw sets j l → mode_status (mode.NotJoined k) ≡ mode_status (mode.NotJoined l)
+one_kind : (sets : List SetContents) (i j : ℕ) (k l : ModeKind) → IsFirstFlaw sets i k → IsFirstFlaw sets j l → mode_status (mode.NotJoined k) ≡ mode_status
+    (mode.NotJoined l)
 one_kind sets i j k l a b =
     let same = one_number i j (λ below. b.lowest i k below a.has) (λ below. a.lowest j l below b.has) in
     let b' : IsFirstFlaw sets i l = subst (λ n. IsFirstFlaw sets n l) (sym same) b in

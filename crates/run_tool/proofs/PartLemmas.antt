@@ -31,7 +31,8 @@ stops_with (Err e) refusal {Stops = Stops} {called = called} {Uncalled = Uncalle
 }
 
 -- so it did before any gate and any job was called
-pub stops_first : {T K J : Type 0} (result : Result T Refusal) (refusal : Refusal) {Told : Type 0} {Stops : Refusal → Type 0} {called : Status → Bool} {c : Crew}
+pub stops_first : {T K J : Type 0} (result : Result T Refusal) (refusal : Refusal) {Told : Type 0} {Stops : Refusal → Type 0} {called : Status → Bool}
+    {c : Crew}
     {kits : K} {jobs : J} → IsErrAnd result (λ e. e ≡ refusal) → Stops refusal → EndsPart Told Stops called c c ((kits ≡ kits) × (jobs ≡ jobs)) result
 stops_first result refusal {c = c} is stops = stops_with result refusal is stops (λ _. (refl, refl)) (back_same c)
 
@@ -59,7 +60,8 @@ ends_written wrote result Took Part Fault is took part fault late told stops bac
 -- one that stopped may have run, whatever its status
 pub ends_drilled : {T : Type 0} (result : Result T Refusal) (number : ℕ) (out out' : Option (List ℕ)) (faults faults' : ℕ) (b n : Crew) (Uncalled : Type 0)
     → OnOk result (RanDrill number out out' b n) → IfErr result (StopsAtDrill number out out' faults faults' b n) → AreBack b n
-    → EndsPart (RanDrill number out out' b n) (StopsAtDrill number out out' faults faults' b n) (may_have_run (Some (Execute (Drill number)))) b n Uncalled result
+    → EndsPart (RanDrill number out out' b n) (StopsAtDrill number out out' faults faults' b n) (may_have_run (Some (Execute (Drill number)))) b n Uncalled
+    result
 ends_drilled result number out out' faults faults' b n Uncalled told stops back = record {
   told = told;
   stops = stops;

@@ -76,7 +76,8 @@ pub record AreMade (n room : ℕ) (jobs : List (Option JobSeen)) : Type 0 where
 module _ {J : Type 0} (id used faults : J → ℕ) (made : J → Option (ℕ × List ℕ)) where
   no_jobs : (places : List (Option J)) → places ≡ [] → AreFirstJobs 0 (jobs_of id used faults made places)
   no_jobs places none =
-      subst (λ places. AreFirstJobs 0 (jobs_of id used faults made places)) (sym none) (record { count = refl; unused = λ i within. absurd (omega (arith, within)) })
+      subst (λ places. AreFirstJobs 0 (jobs_of id used faults made places)) (sym none)
+      (record { count = refl; unused = λ i within. absurd (omega (arith, within)) })
 
   more_jobs : (n : ℕ) (places places' : List (Option J)) (job : J) → AreFirstJobs n (jobs_of id used faults made places)
       → places' ≡ places ++ Some job ∷ [] → id job ≡ n → used job ≡ 0

@@ -36,7 +36,8 @@ use Rattle.run_tool.proofs.ExecutionAnswerLemmas.{WritesCalled, IsToldBy, StopsB
 use Rattle.run_tool.specs.Commands.{IsToRun, CallsForExecution}
 use Rattle.sched_base.specs.Sets.{SetContents}
 use Rattle.run_tool.specs.Executed.{WritesJobsRun, RefusesJobsRun}
-use Rattle.run_tool.specs.Executed.{WritesRun, RefusesRun, RanDrill, StopsAtDrill, ToldRun, StopsRun, EndsWith, NoneFailed, may_have_called, takes_memory_late, may_have_run}
+use Rattle.run_tool.specs.Executed.{WritesRun, RefusesRun, RanDrill, StopsAtDrill, ToldRun, StopsRun, EndsWith, NoneFailed, may_have_called}
+use Rattle.run_tool.specs.Executed.{takes_memory_late, may_have_run}
 
 pub back_same : (c : Crew) → AreBack c c
 back_same c = record { gates = λ p g at. (g, at, omega arith); jobs = λ i j at. (j, at, refl, omega arith) }

@@ -56,7 +56,8 @@ module _ (s : SetContents) (p : PlanContents) (set : p.set ≡ s) (tree : p.tree
   uncounted window met out faults c (count_fault.TooLong rows) run is = (too_long met rows run is, keeps_same out)
   uncounted window met out faults c count_fault.NoMemory run is = (tt, keeps_same out)
 
-  pub run_stops : (window : ℕ) (met : Bool) (out : Option (List ℕ)) (faults count : ℕ) (old new : Crew) (r : Refusal) → IsSchedulable s p.tree.scale → count ≡ rounds_of p
+  pub run_stops : (window : ℕ) (met : Bool) (out : Option (List ℕ)) (faults count : ℕ) (old new : Crew) (r : Refusal) → IsSchedulable s p.tree.scale →
+      count ≡ rounds_of p
       → count * p.tree.processors ≤ row_limit → StopsInRun p window old new r → StopsAtRun window met out out faults faults old new s r
   run_stops window met out faults count old new (why.GateFault row name) run is few stops =
       (p.tree.scale, run, room count is few, subst (λ (q : PlanContents). StopsInRun q window old new (why.GateFault row name)) same_plan stops, keeps_same out)
@@ -67,7 +68,8 @@ module _ (s : SetContents) (p : PlanContents) (set : p.set ≡ s) (tree : p.tree
 
   -- all was run and written
   pub run_written : (met : Bool) (out out' : Option (List ℕ)) (count : ℕ) (old new : Crew) → IsSchedulable s p.tree.scale → count ≡ rounds_of p
-      → count * p.tree.processors ≤ row_limit → RanAll p old new → Appends out out' (schedule_text (version_of met p.set.tasks) p) → RanSet met out out' old new s
+      → count * p.tree.processors ≤ row_limit → RanAll p old new → Appends out out' (schedule_text (version_of met p.set.tasks) p) → RanSet met out out' old
+      new s
   run_written met out out' count old new run is few ran took = (
     p.tree.scale,
     run,
@@ -78,7 +80,8 @@ module _ (s : SetContents) (p : PlanContents) (set : p.set ≡ s) (tree : p.tree
 
   -- all was run, and not all was written
   pub run_unwritten : (window : ℕ) (met : Bool) (out out' : Option (List ℕ)) (faults faults' count : ℕ) (old new : Crew) → IsSchedulable s p.tree.scale
-      → count ≡ rounds_of p → count * p.tree.processors ≤ row_limit → RanAll p old new → TookPart out out' (schedule_text (version_of met p.set.tasks) p) → Rose faults faults'
+      → count ≡ rounds_of p → count * p.tree.processors ≤ row_limit → RanAll p old new → TookPart out out' (schedule_text (version_of met p.set.tasks) p) →
+      Rose faults faults'
       → StopsAtRun window met out out' faults faults' old new s why.WriteFault
   run_unwritten window met out out' faults faults' count old new run is few ran took rose = (
     p.tree.scale,
@@ -125,7 +128,8 @@ run_stopped window met old new b n s (why.Overload total room) gave stops = let 
 run_stopped window met old new b n s _ gave stops = absurd stops.0
 
 -- no set was read
-pub run_unread : (window : ℕ) (met : Bool) (old new : Streams) (b n : Crew) (r : Refusal) → GaveNoSet old.left new.left old.read_faults new.read_faults set_limit r
+pub run_unread : (window : ℕ) (met : Bool) (old new : Streams) (b n : Crew) (r : Refusal) → GaveNoSet old.left new.left old.read_faults new.read_faults
+    set_limit r
     → Keeps old.out new.out → StopsAs set_limit (WritesRun met b n) (RefusesRun window met b n) old new r
 run_unread window met old new b n why.ReadFault none keeps = (none.0, none.1, keeps)
 run_unread window met old new b n why.NoMemory none keeps = keeps

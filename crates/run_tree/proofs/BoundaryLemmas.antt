@@ -4,7 +4,8 @@ use Rattle.std.proofs.lemmas.Bool.{both_ways}
 use Rattle.run_tree.specs.declared.kinds.Kind.{Kind}
 use Rattle.sched_base.specs.declared.rows.Leaf.{Leaf}
 use Rattle.run_tree.specs.Windows.{HasBoundaries}
-use Rattle.run_tree.specs.Tree.{IsDual, IsLeaf, IsMember, IsPack, IsTree, Tree, dual, is_dual, is_leaf, is_pack, kind_at, leaf, leaf_of, level, level_of, member, members, primal, primal_of}
+use Rattle.run_tree.specs.Tree.{IsDual, IsLeaf, IsMember, IsPack, IsTree, Tree, dual, is_dual, is_leaf, is_pack, kind_at, leaf, leaf_of, level}
+use Rattle.run_tree.specs.Tree.{level_of, member, members, primal, primal_of}
 use Rattle.run_tree.specs.Boundaries.{HaveBoundaries, any_of, is_boundary, member_boundary, node_boundary, pack_boundary}
 use Rattle.run_tree.proofs.KindLemmas.{KindOf, kind_of}
 use Rattle.run_tree.proofs.WindowLemmas.{has_more}
@@ -27,17 +28,20 @@ any_of_none p (x ∷ xs) f =
     ap (λ (b : Bool). elim b as (λ y. Bool) [ true ↦ true | false ↦ any_of p xs ]) (f 0 (omega arith))
     ∙ any_of_none p xs (λ k l. f (suc k) (omega arith))
 
-pub leaf_node_boundary : (of_leaf : Leaf → ℕ → Bool) (t : Tree) (x : ℕ) (m : Kind) (u : ℕ) → is_leaf m ≡ true → node_boundary of_leaf t x m u ≡ of_leaf (leaf_of m) u
+pub leaf_node_boundary : (of_leaf : Leaf → ℕ → Bool) (t : Tree) (x : ℕ) (m : Kind) (u : ℕ) → is_leaf m ≡ true → node_boundary of_leaf t x m u ≡ of_leaf
+    (leaf_of m) u
 leaf_node_boundary of_leaf t x (kind.Leaf leaf) u e = refl
 leaf_node_boundary of_leaf t x (kind.Pack level) u e = cc
 leaf_node_boundary of_leaf t x (kind.Dual primal) u e = cc
 
-pub pack_boundary_is : (of_leaf : Leaf → ℕ → Bool) (t : Tree) (x : ℕ) (m : Kind) (u : ℕ) → is_pack m ≡ true → node_boundary of_leaf t x m u ≡ pack_boundary of_leaf t (level_of m) x u
+pub pack_boundary_is : (of_leaf : Leaf → ℕ → Bool) (t : Tree) (x : ℕ) (m : Kind) (u : ℕ) → is_pack m ≡ true → node_boundary of_leaf t x m u ≡ pack_boundary
+    of_leaf t (level_of m) x u
 pack_boundary_is of_leaf t x (kind.Leaf leaf) u e = cc
 pack_boundary_is of_leaf t x (kind.Pack level) u e = refl
 pack_boundary_is of_leaf t x (kind.Dual primal) u e = cc
 
-pub dual_boundary : (of_leaf : Leaf → ℕ → Bool) (t : Tree) (x : ℕ) (m : Kind) (u : ℕ) → is_dual m ≡ true → node_boundary of_leaf t x m u ≡ pack_boundary of_leaf t (level t (primal_of m)) (primal_of m) u
+pub dual_boundary : (of_leaf : Leaf → ℕ → Bool) (t : Tree) (x : ℕ) (m : Kind) (u : ℕ) → is_dual m ≡ true → node_boundary of_leaf t x m u ≡ pack_boundary
+    of_leaf t (level t (primal_of m)) (primal_of m) u
 dual_boundary of_leaf t x (kind.Leaf leaf) u e = cc
 dual_boundary of_leaf t x (kind.Pack level) u e = cc
 dual_boundary of_leaf t x (kind.Dual primal) u e = refl
@@ -81,14 +85,16 @@ module _ (of_leaf : Leaf → ℕ → Bool) (t : Tree) (h : IsTree t) where
           any_of_at (λ x. member_boundary of_leaf (λ q v. false) (kind_at t x) u) (members t p) k l (at_kind (kind_of (kind_at t (member t p k))))
         where
           at_kind : KindOf (kind_at t (member t p k)) → member_boundary of_leaf (λ q v. false) (kind_at t (member t p k)) u ≡ true
-          at_kind (inl a_leaf) = member_leaf of_leaf (λ q v. false) (kind_at t (member t p k)) u a_leaf ∙ sym (bound_leaf (member t p k) ((h.members_are p k i l).0.0, a_leaf) u) ∙ e
+          at_kind (inl a_leaf) = member_leaf of_leaf (λ q v. false) (kind_at t (member t p k)) u a_leaf
+              ∙ sym (bound_leaf (member t p k) ((h.members_are p k i l).0.0, a_leaf) u) ∙ e
           at_kind (inr (inl a_dual)) =
               (let up = (h.duals_are (member t p k) ((h.members_are p k i l).0.0, a_dual)).2 in
               let same = ap (level t) (h.members_are p k i l).1 in
               absurd (omega (arith, up, same, at)))
           at_kind (inr (inr a_pack)) = absurd (both_ways (is_pack (kind_at t (member t p k))) (h.members_are p k i l).0.1 a_pack)
       go (suc n) at =
-          any_of_at (λ x. member_boundary of_leaf (λ q v. pack_boundary of_leaf t n q v) (kind_at t x) u) (members t p) k l (at_kind (kind_of (kind_at t (member t p k))))
+          any_of_at (λ x. member_boundary of_leaf (λ q v. pack_boundary of_leaf t n q v) (kind_at t x) u) (members t p) k l
+          (at_kind (kind_of (kind_at t (member t p k))))
         where
           at_kind : KindOf (kind_at t (member t p k)) → member_boundary of_leaf (λ q v. pack_boundary of_leaf t n q v) (kind_at t (member t p k)) u ≡ true
           at_kind (inl a_leaf) =
@@ -112,7 +118,8 @@ module _ (of_leaf : Leaf → ℕ → Bool) (t : Tree) (h : IsTree t) where
   pack_has leaves zero p i at = has_more (bound (member t p 0)) (bound p) (at_kind (kind_of (kind_at t (member t p 0)))) (bound_member p 0 i (h.filled p i))
     where
       at_kind : KindOf (kind_at t (member t p 0)) → HasBoundaries (bound (member t p 0))
-      at_kind (inl a_leaf) = has_more (of_leaf (leaf t (member t p 0))) (bound (member t p 0)) (leaves (member t p 0) ((h.members_are p 0 i (h.filled p i)).0.0, a_leaf))
+      at_kind (inl a_leaf) = has_more (of_leaf (leaf t (member t p 0))) (bound (member t p 0)) (leaves (member t p 0)
+          ((h.members_are p 0 i (h.filled p i)).0.0, a_leaf))
           (λ v e. bound_leaf (member t p 0) ((h.members_are p 0 i (h.filled p i)).0.0, a_leaf) v ∙ e)
       at_kind (inr (inl a_dual)) =
           (let up = (h.duals_are (member t p 0) ((h.members_are p 0 i (h.filled p i)).0.0, a_dual)).2 in
@@ -121,7 +128,8 @@ module _ (of_leaf : Leaf → ℕ → Bool) (t : Tree) (h : IsTree t) where
       at_kind (inr (inr a_pack)) = absurd (both_ways (is_pack (kind_at t (member t p 0))) (h.members_are p 0 i (h.filled p i)).0.1 a_pack)
   pack_has leaves (suc n) p i at = at_kind (kind_of (kind_at t (member t p 0))) (pack_has leaves n (primal t (member t p 0)))
     where
-      at_kind : KindOf (kind_at t (member t p 0)) → (IsPack t (primal t (member t p 0)) → level t (primal t (member t p 0)) ≡ n → HasBoundaries (bound (primal t (member t p 0)))) → HasBoundaries (bound p)
+      at_kind : KindOf (kind_at t (member t p 0)) → (IsPack t (primal t (member t p 0)) → level t (primal t (member t p 0)) ≡ n →
+          HasBoundaries (bound (primal t (member t p 0)))) → HasBoundaries (bound p)
       at_kind (inl leaf) ih =
           (let down = (h.leaves_are (member t p 0) ((h.members_are p 0 i (h.filled p i)).0.0, leaf)).0 in
           let same = ap (level t) (h.members_are p 0 i (h.filled p i)).1 in
@@ -149,16 +157,24 @@ module _ (of_leaf : Leaf → ℕ → Bool) (t : Tree) (h : IsTree t) where
 module _ (of_leaf : Leaf → ℕ → Bool) (t : Tree) (h : IsTree t) (u : ℕ) (none : (x : ℕ) → IsLeaf t x → of_leaf (leaf t x) u ≡ false) where
   -- then no pack has one
   pub no_pack_boundary : (l p : ℕ) → IsPack t p → level t p ≡ l → pack_boundary of_leaf t l p u ≡ false
-  no_pack_boundary zero p i at = any_of_none (λ x. member_boundary of_leaf (λ q v. false) (kind_at t x) u) (members t p) (λ k b. at_kind k b (kind_of (kind_at t (member t p k))))
+  no_pack_boundary zero p i at = any_of_none (λ x. member_boundary of_leaf (λ q v. false) (kind_at t x) u) (members t p)
+      (λ k b. at_kind k b (kind_of (kind_at t (member t p k))))
     where
-      at_kind : (k : ℕ) (b : k < length (members t p)) → KindOf (kind_at t (member t p k)) → member_boundary of_leaf (λ q v. false) (kind_at t (member t p k)) u ≡ false
-      at_kind k b (inl a_leaf) = member_leaf of_leaf (λ q v. false) (kind_at t (member t p k)) u a_leaf ∙ none (member t p k) ((h.members_are p k i b).0.0, a_leaf)
+      at_kind : (k : ℕ) (b : k < length (members t p)) → KindOf (kind_at t (member t p k)) → member_boundary of_leaf (λ q v. false)
+          (kind_at t (member t p k)) u ≡ false
+      at_kind k b (inl a_leaf) = member_leaf of_leaf (λ q v. false) (kind_at t (member t p k)) u a_leaf ∙ none (member t p k) (
+        (h.members_are p k i b).0.0,
+        a_leaf,
+      )
       at_kind k b (inr (inl a_dual)) = member_dual of_leaf (λ q v. false) (kind_at t (member t p k)) u a_dual
       at_kind k b (inr (inr a_pack)) = absurd (both_ways (is_pack (kind_at t (member t p k))) (h.members_are p k i b).0.1 a_pack)
-  no_pack_boundary (suc l) p i at = any_of_none (λ x. member_boundary of_leaf (λ q v. pack_boundary of_leaf t l q v) (kind_at t x) u) (members t p) (λ k b. at_kind (no_pack_boundary l) k b (kind_of (kind_at t (member t p k))))
+  no_pack_boundary (suc l) p i at = any_of_none (λ x. member_boundary of_leaf (λ q v. pack_boundary of_leaf t l q v) (kind_at t x) u) (members t p)
+      (λ k b. at_kind (no_pack_boundary l) k b (kind_of (kind_at t (member t p k))))
     where
-      at_kind : ((q : ℕ) → IsPack t q → level t q ≡ l → pack_boundary of_leaf t l q u ≡ false) → (k : ℕ) (b : k < length (members t p)) → KindOf (kind_at t (member t p k)) → member_boundary of_leaf (λ q v. pack_boundary of_leaf t l q v) (kind_at t (member t p k)) u ≡ false
-      at_kind ih k b (inl a_leaf) = member_leaf of_leaf (λ q v. pack_boundary of_leaf t l q v) (kind_at t (member t p k)) u a_leaf ∙ none (member t p k) ((h.members_are p k i b).0.0, a_leaf)
+      at_kind : ((q : ℕ) → IsPack t q → level t q ≡ l → pack_boundary of_leaf t l q u ≡ false) → (k : ℕ) (b : k < length (members t p)) →
+          KindOf (kind_at t (member t p k)) → member_boundary of_leaf (λ q v. pack_boundary of_leaf t l q v) (kind_at t (member t p k)) u ≡ false
+      at_kind ih k b (inl a_leaf) = member_leaf of_leaf (λ q v. pack_boundary of_leaf t l q v) (kind_at t (member t p k)) u a_leaf ∙ none (member t p k)
+          ((h.members_are p k i b).0.0, a_leaf)
       at_kind ih k b (inr (inl a_dual)) =
           (let d = h.duals_are (member t p k) ((h.members_are p k i b).0.0, a_dual) in
           let up = d.2 in

@@ -1,7 +1,9 @@
 -- What one more member of a growth changes, and what it keeps.
-use Rattle.std.proofs.Common.{◌≡◌, ◌≢◌, ℕ, zero, suc, ◌+◌, ◌-◌, ◌≤◌, false, List, [], ◌∷◌, ◌++◌, length, get_or, set, ap, ap₂, subst, sym, ◌∙◌, refl, arith, inl, inr, le_refl, eq-eqb}
+use Rattle.std.proofs.Common.{◌≡◌, ◌≢◌, ℕ, zero, suc, ◌+◌, ◌-◌, ◌≤◌, false, List, [], ◌∷◌, ◌++◌, length, get_or, set, ap, ap₂, subst, sym, ◌∙◌, refl}
+use Rattle.std.proofs.Common.{arith, inl, inr, le_refl, eq-eqb}
 use Rattle.std.proofs.lemmas.Bool.{cases_eq, cases_lt, ne_eqb}
-use Rattle.std.proofs.lemmas.List.{length-set, length_push, length-map, get_or_append_left, get_or-append_right, get_or_past, set_past, get_or-set_same, get_or-set_other, append-nil, get_or_push}
+use Rattle.std.proofs.lemmas.List.{length-set, length_push, length-map, get_or_append_left, get_or-append_right, get_or_past, set_past}
+use Rattle.std.proofs.lemmas.List.{get_or-set_same, get_or-set_other, append-nil, get_or_push}
 use Rattle.sched_base.specs.Counting.{sum_to, bit}
 use Rattle.sched_base.proofs.SumLemmas.{sum_to-same}
 use Rattle.run_tree.specs.declared.kinds.Kind.{Kind}
@@ -38,7 +40,8 @@ all_one Q x here past zero = here
 all_one Q x here past (suc p) = past
 
 pub all_push : (Q : Node → Type 0) (xs : List Node) (x : Node) → Q x → AllNodes Q xs → AllNodes Q (xs ++ x ∷ [])
-all_push Q xs x here all = all_append Q xs (x ∷ []) all (all_one Q x here (subst Q (get_or_past xs (length xs) no_node (le_refl (length xs))) (all (length xs))))
+all_push Q xs x here all = all_append Q xs (x ∷ []) all (all_one Q x here (subst Q (get_or_past xs (length xs) no_node (le_refl (length xs)))
+    (all (length xs))))
 
 -- ---- leaves and packs with one more node
 
@@ -48,7 +51,8 @@ is_leaf_in ks x = bit (is_leaf (get_or ks x (kind.Pack 0)))
 pub leaves_in-push : (ks : List Kind) (k : Kind) → leaves_in (ks ++ k ∷ []) ≡ leaves_in ks + bit (is_leaf k)
 leaves_in-push ks k =
     let long : length (ks ++ k ∷ []) ≡ suc (length ks) = omega (arith, length_push ks k) in
-    let below = sum_to-same (length ks) (is_leaf_in (ks ++ k ∷ [])) (is_leaf_in ks) (λ x l. ap (λ j. bit (is_leaf j)) (get_or_append_left ks (k ∷ []) (kind.Pack 0) x l)) in
+    let below = sum_to-same (length ks) (is_leaf_in (ks ++ k ∷ [])) (is_leaf_in ks) (λ x l. ap (λ j. bit (is_leaf j)) (get_or_append_left ks (k ∷ [])
+    (kind.Pack 0) x l)) in
     let here : is_leaf_in (ks ++ k ∷ []) (length ks) ≡ bit (is_leaf k) = ap (λ j. bit (is_leaf j)) (get_or_push ks k (kind.Pack 0) (length ks) refl) in
     ap (λ n. sum_to n (is_leaf_in (ks ++ k ∷ []))) long ∙ ap₂ (λ a b. a + b) below here
 
@@ -58,14 +62,17 @@ off_level l (kind.Pack level) e = cc
 off_level l (kind.Dual primal) e = refl
 
 pub packs_from-member : (l n : ℕ) (ks : List Kind) (k : Kind) → is_pack k ≡ false → packs_from l n (ks ++ k ∷ []) ≡ packs_from l n ks
-packs_from-member l n ks k e = packs_from-append l n ks (k ∷ []) ∙ ap (λ xs. packs_from l n ks ++ xs) (packs_from_off l (n + length ks) k [] (off_level l k e)) ∙ append-nil (packs_from l n ks)
+packs_from-member l n ks k e = packs_from-append l n ks (k ∷ []) ∙ ap (λ xs. packs_from l n ks ++ xs) (packs_from_off l (n + length ks) k []
+    (off_level l k e)) ∙ append-nil (packs_from l n ks)
 
 pub packs_from-pack : (l n : ℕ) (ks : List Kind) → packs_from l n (ks ++ kind.Pack l ∷ []) ≡ packs_from l n ks ++ (n + length ks) ∷ []
-packs_from-pack l n ks = packs_from-append l n ks (kind.Pack l ∷ []) ∙ ap (λ xs. packs_from l n ks ++ xs) (packs_from_at l (n + length ks) (kind.Pack l) [] (eq-eqb l l refl))
+packs_from-pack l n ks = packs_from-append l n ks (kind.Pack l ∷ []) ∙ ap (λ xs. packs_from l n ks ++ xs) (packs_from_at l (n + length ks) (kind.Pack l) []
+    (eq-eqb l l refl))
 
 pub packs_from-other : (l level n : ℕ) (ks : List Kind) → l ≢ level → packs_from l n (ks ++ kind.Pack level ∷ []) ≡ packs_from l n ks
 packs_from-other l level n ks ne =
-    packs_from-append l n ks (kind.Pack level ∷ []) ∙ ap (λ xs. packs_from l n ks ++ xs) (packs_from_off l (n + length ks) (kind.Pack level) [] (ne_eqb level l (λ e. ne (sym e)))) ∙ append-nil (packs_from l n ks)
+    packs_from-append l n ks (kind.Pack level ∷ []) ∙ ap (λ xs. packs_from l n ks ++ xs) (packs_from_off l (n + length ks) (kind.Pack level) []
+    (ne_eqb level l (λ e. ne (sym e)))) ∙ append-nil (packs_from l n ks)
 
 -- ---- a step
 
@@ -109,13 +116,16 @@ step_at base level k rate b g e =
       leaves = ap leaves_in ks ∙ leaves_in-push (kinds g.nodes) k;
       packs = λ was. was ∙ sym (ap (packs_from level base) ks ∙ packs_from-member level base (kinds g.nodes) k e);
       others = λ l ne. ap (packs_from l base) ks ∙ packs_from-member l base (kinds g.nodes) k e;
-      members = λ n all. all_push (FewMembers (suc n)) (set g.nodes i y) m (omega arith) (all_set (FewMembers (suc n)) g.nodes i y (let h = all i in omega (arith, h, length_push x.members (base + length g.nodes))) (wider n all));
-      rates = λ r all. all_push (LowRate (r + rate)) (set g.nodes i y) m (omega arith) (all_set (LowRate (r + rate)) g.nodes i y (let h = all i in omega (arith, h)) (higher r all));
+      members = λ n all. all_push (FewMembers (suc n)) (set g.nodes i y) m (omega arith) (all_set (FewMembers (suc n)) g.nodes i y (let h = all i in
+          omega (arith, h, length_push x.members (base + length g.nodes))) (wider n all));
+      rates = λ r all. all_push (LowRate (r + rate)) (set g.nodes i y) m (omega arith) (all_set (LowRate (r + rate)) g.nodes i y (let h = all i in
+          omega (arith, h)) (higher r all));
       primals = λ n new all. all_push (PrimalBelow n) (set g.nodes i y) m new (all_set (PrimalBelow n) g.nodes i y (all i) all);
     }
 
 -- a new pack, and then a member
-step_new : (base level : ℕ) (k : Kind) (rate b : ℕ) (g : Growth) → is_pack k ≡ false → IsStep base level k rate g (grown_at base k rate b (with_pack base level g))
+step_new : (base level : ℕ) (k : Kind) (rate b : ℕ) (g : Growth) → is_pack k ≡ false → IsStep base level k rate g (grown_at base k rate b
+    (with_pack base level g))
 step_new base level k rate b g e =
     let w : Growth = with_pack base level g in
     let s = step_at base level k rate b w e in
@@ -128,7 +138,8 @@ step_new base level k rate b g e =
       more = (let h = s.more in omega (arith, h, c));
       one = omega (arith, c);
       leaves = (let h = s.leaves in let f = ap leaves_in ks ∙ leaves_in-push (kinds g.nodes) (kind.Pack level) in omega (arith, h, f));
-      packs = λ was. s.packs (ap (λ xs. xs ++ (base + length g.nodes) ∷ []) was ∙ ap (λ n. packs_from level base (kinds g.nodes) ++ (base + n) ∷ []) (sym kinds_long) ∙ sym (ap (packs_from level base) ks ∙ packs_from-pack level base (kinds g.nodes)));
+      packs = λ was. s.packs (ap (λ xs. xs ++ (base + length g.nodes) ∷ []) was ∙ ap (λ n. packs_from level base (kinds g.nodes) ++ (base + n) ∷ [])
+          (sym kinds_long) ∙ sym (ap (packs_from level base) ks ∙ packs_from-pack level base (kinds g.nodes)));
       others = λ l ne. s.others l ne ∙ ap (packs_from l base) ks ∙ packs_from-other l level base (kinds g.nodes) ne;
       members = λ n all. s.members n (all_push (FewMembers n) g.nodes (pack_node level) (omega arith) all);
       rates = λ r all. s.rates r (all_push (LowRate r) g.nodes (pack_node level) (omega arith) all);

@@ -29,13 +29,16 @@ packs_on : (t : Tree) (g : Growth) (l : ℕ) → packs_at (level_on t g).tree l 
 packs_on t g l =
     let long : 0 + length (kinds t.nodes) ≡ length t.nodes = (let e = length-map t.nodes (λ (n : Node). n.kind) in omega (arith, e)) in
     packs_at_is (level_on t g).tree l
-    ∙ ap (packs_from l 0) (map-append (λ (n : Node). n.kind) (with_duals (length t.nodes) g.nodes t.nodes) g.nodes ∙ ap (λ ks. ks ++ kinds g.nodes) (kinds-with_duals (length t.nodes) g.nodes t.nodes))
+    ∙ ap (packs_from l 0) (map-append (λ (n : Node). n.kind) (with_duals (length t.nodes) g.nodes t.nodes) g.nodes ∙ ap (λ ks. ks ++ kinds g.nodes)
+    (kinds-with_duals (length t.nodes) g.nodes t.nodes))
     ∙ packs_from-append l 0 (kinds t.nodes) (kinds g.nodes)
     ∙ ap₂ (λ xs n. xs ++ packs_from l n (kinds g.nodes)) (sym (packs_at_is t l)) long
 
-module _ (lower : List (List ℕ)) (m : Making) (n : ℕ) (g : Growth) (was : IsMaker lower m) (fresh : IsLevelOf (length m.tree.nodes) m.tree.levels m.tree.scale n g) where
+module _ (lower : List (List ℕ)) (m : Making) (n : ℕ) (g : Growth) (was : IsMaker lower m) (fresh : IsLevelOf (length m.tree.nodes) m.tree.levels
+    m.tree.scale n g) where
   private_nodes : length (level_on m.tree g).tree.nodes ≡ length m.tree.nodes + length g.nodes
-  private_nodes = length-append (with_duals (length m.tree.nodes) g.nodes m.tree.nodes) g.nodes ∙ ap (λ k. k + length g.nodes) (length-with_duals (length m.tree.nodes) g.nodes m.tree.nodes)
+  private_nodes = length-append (with_duals (length m.tree.nodes) g.nodes m.tree.nodes) g.nodes ∙ ap (λ k. k + length g.nodes)
+      (length-with_duals (length m.tree.nodes) g.nodes m.tree.nodes)
 
   pub level_making : n ≤ 1280 → m.tree.levels < 4096 → IsMaking (level_on m.tree g)
   level_making few levels =
@@ -58,7 +61,8 @@ module _ (lower : List (List ℕ)) (m : Making) (n : ℕ) (g : Growth) (was : Is
         few_members = λ p.
             let all : AllNodes (FewMembers (length m.tree.nodes + length g.nodes)) (level_on m.tree g).tree.nodes =
             all_append (FewMembers (length m.tree.nodes + length g.nodes)) (with_duals (length m.tree.nodes) g.nodes m.tree.nodes) g.nodes
-            (few_with_duals (length m.tree.nodes + length g.nodes) (length m.tree.nodes) g.nodes m.tree.nodes (λ q. let h = k.few_members q in omega (arith, h)))
+            (few_with_duals (length m.tree.nodes + length g.nodes) (length m.tree.nodes) g.nodes m.tree.nodes (λ q. let h = k.few_members q in
+            omega (arith, h)))
             (λ q. let h = fresh.members q in omega (arith, h, enough)) in
             let h = all p in
             omega (arith, h, nodes);
@@ -77,31 +81,40 @@ module _ (lower : List (List ℕ)) (m : Making) (n : ℕ) (g : Growth) (was : Is
       record {
         count = omega (arith, count, long);
         below = λ l b. elim (cases_lt l (length lower)) [
-          | inl in_lower ↦ get_or_append_left lower (m.last ∷ []) [] l in_lower ∙ h.below l in_lower ∙ sym (same_below l (λ e. omega (arith, e, in_lower, count)))
+          | inl in_lower ↦ get_or_append_left lower (m.last ∷ []) [] l in_lower ∙ h.below l in_lower
+              ∙ sym (same_below l (λ e. omega (arith, e, in_lower, count)))
           | inr at ↦
               (let e : l ≡ length lower = omega (arith, at, b, long) in
               get_or_push lower m.last [] l (sym e) ∙ h.last ∙ ap (packs_at m.tree) (sym e) ∙ sym (same_below l (λ f. omega (arith, e, f, count))))
         ];
         last =
             let e : m.tree.levels ≡ length (lower ++ m.last ∷ []) = omega (arith, count, long) in
-            fresh.packs ∙ sym (packs_on m.tree g m.tree.levels ∙ ap (λ xs. xs ++ packs_from m.tree.levels (length m.tree.nodes) (kinds g.nodes)) (h.above m.tree.levels (le_refl m.tree.levels))) ∙ ap (packs_at (level_on m.tree g).tree) e;
+            fresh.packs ∙ sym (packs_on m.tree g m.tree.levels ∙ ap (λ xs. xs ++ packs_from m.tree.levels (length m.tree.nodes) (kinds g.nodes))
+            (h.above m.tree.levels (le_refl m.tree.levels))) ∙ ap (packs_at (level_on m.tree g).tree) e;
         above = λ l b. same_below l (λ e. omega (arith, e, b)) ∙ h.above l (omega (arith, b));
       }
 
 -- a level more keeps all
-pub level_kept : (lower : List (List ℕ)) (m : Making) (packs homes : List ℕ) → IsMaker lower m → m.tree.levels < 4096 → length packs ≤ 1280 → length homes ≡ length packs → ((i : ℕ) → i < length packs → get_or packs i 0 < length m.tree.nodes) →
+pub level_kept : (lower : List (List ℕ)) (m : Making) (packs homes : List ℕ) → IsMaker lower m → m.tree.levels < 4096 → length packs ≤ 1280 →
+    length homes ≡ length packs → ((i : ℕ) → i < length packs → get_or packs i 0 < length m.tree.nodes) →
     IsMaker (lower ++ m.last ∷ []) (level_on m.tree (with_duals_of m.tree.nodes m.tree.scale m.tree.levels packs homes no_growth))
 level_kept lower m packs homes was levels few each old =
     let g : Growth = with_duals_of m.tree.nodes m.tree.scale m.tree.levels packs homes no_growth in
-    let fresh = level_made m.tree.nodes m.tree.scale m.tree.levels 0 packs homes no_growth each old (level_none (length m.tree.nodes) m.tree.levels m.tree.scale) in
-    record { making = level_making lower m (0 + length packs) g was fresh (omega (arith, few)) levels; levels = level_levels lower m (0 + length packs) g was fresh }
+    let fresh = level_made m.tree.nodes m.tree.scale m.tree.levels 0 packs homes no_growth each old (level_none (length m.tree.nodes) m.tree.levels
+    m.tree.scale) in
+    record {
+      making = level_making lower m (0 + length packs) g was fresh (omega (arith, few)) levels;
+      levels = level_levels lower m (0 + length packs) g
+          was fresh;
+    }
 
 -- the level that these packs and homes tell
 abbrev pub level_told : Making → List ℕ → List ℕ → Growth
 level_told m packs homes = with_duals_of m.tree.nodes m.tree.scale m.tree.levels packs homes no_growth
 
 -- what is stored is that level above the nodes so far
-pub stored_level : (m : Making) (packs homes : List ℕ) (level new : Growth) → level ≡ level_told m packs homes → new.nodes ≡ with_duals (length m.tree.nodes) level.nodes m.tree.nodes ++ level.nodes → new.packs ≡ level.packs →
+pub stored_level : (m : Making) (packs homes : List ℕ) (level new : Growth) → level ≡ level_told m packs homes → new.nodes ≡ with_duals
+    (length m.tree.nodes) level.nodes m.tree.nodes ++ level.nodes → new.packs ≡ level.packs →
     record { tree = record m.tree { levels = m.tree.levels + 1; nodes = new.nodes }; last = new.packs } ≡ level_on m.tree (level_told m packs homes)
 stored_level m packs homes level new told nodes numbers =
     let M : ℕ → List Node → List ℕ → Making = λ (l : ℕ) (xs : List Node) (ys : List ℕ). record { tree = record m.tree { levels = l; nodes = xs }; last = ys } in
@@ -109,15 +122,19 @@ stored_level m packs homes level new told nodes numbers =
     ∙ ap₂ (M (suc m.tree.levels)) nodes numbers
     ∙ ap (level_on m.tree) told
 
-pub primals_told : (m : Making) (packs homes : List ℕ) (level : Growth) → level ≡ level_told m packs homes → length homes ≡ length packs → ((i : ℕ) → i < length packs → get_or packs i 0 < length m.tree.nodes) →
+pub primals_told : (m : Making) (packs homes : List ℕ) (level : Growth) → level ≡ level_told m packs homes → length homes ≡ length packs →
+    ((i : ℕ) → i < length packs → get_or packs i 0 < length m.tree.nodes) →
     IsLevelOf (length m.tree.nodes) m.tree.levels m.tree.scale (0 + length packs) level
 primals_told m packs homes level told each old =
     subst (IsLevelOf (length m.tree.nodes) m.tree.levels m.tree.scale (0 + length packs)) (sym told)
     (level_made m.tree.nodes m.tree.scale m.tree.levels 0 packs homes no_growth each old (level_none (length m.tree.nodes) m.tree.levels m.tree.scale))
 
-pub raised_kept : (lower now : List (List ℕ)) (m : Making) (packs homes : List ℕ) (level new : Growth) → now ≡ lower ++ m.last ∷ [] → level ≡ level_told m packs homes →
-    new.nodes ≡ with_duals (length m.tree.nodes) level.nodes m.tree.nodes ++ level.nodes → new.packs ≡ level.packs → IsMaker (lower ++ m.last ∷ []) (level_on m.tree (level_told m packs homes)) →
+pub raised_kept : (lower now : List (List ℕ)) (m : Making) (packs homes : List ℕ) (level new : Growth) → now ≡ lower ++ m.last ∷ [] →
+    level ≡ level_told m packs homes →
+    new.nodes ≡ with_duals (length m.tree.nodes) level.nodes m.tree.nodes ++ level.nodes → new.packs ≡ level.packs → IsMaker (lower ++ m.last ∷ [])
+    (level_on m.tree (level_told m packs homes)) →
     IsMaker now (record { tree = record m.tree { levels = m.tree.levels + 1; nodes = new.nodes }; last = new.packs })
 raised_kept lower now m packs homes level new more told nodes numbers kept =
     let made : Making = record { tree = record m.tree { levels = m.tree.levels + 1; nodes = new.nodes }; last = new.packs } in
-    subst (λ (ls : List (List ℕ)). IsMaker ls made) (sym more) (subst (IsMaker (lower ++ m.last ∷ [])) (sym (stored_level m packs homes level new told nodes numbers)) kept)
+    subst (λ (ls : List (List ℕ)). IsMaker ls made) (sym more) (subst (IsMaker (lower ++ m.last ∷ [])) (sym (stored_level m packs homes level new told nodes
+    numbers)) kept)

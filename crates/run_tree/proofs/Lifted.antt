@@ -30,7 +30,8 @@ member_on ms fs base q i k rate long at =
     let all : length (ms ++ fs) ≡ base + length fs = omega (arith, length-append ms fs) in
     let F : Node → ℕ → List Node = λ (x : Node) (n : ℕ). set (ms ++ fs) q (joined x n rate) ++ member_node k rate q (length x.members) ∷ [] in
     ap₂ F read all
-    ∙ ap (λ xs. xs ++ member_node k rate q (length (node_in fs i).members) ∷ []) (set-append_right ms fs base q (joined (node_in fs i) (base + length fs) rate) long (omega arith))
+    ∙ ap (λ xs. xs ++ member_node k rate q (length (node_in fs i).members) ∷ []) (set-append_right ms fs base q (joined (node_in fs i) (base + length fs)
+    rate) long (omega arith))
     ∙ ap₂ (λ j h. (ms ++ set fs j (joined (node_in fs i) (base + length fs) rate)) ++ member_node k rate h (length (node_in fs i).members) ∷ []) e at
     ∙ append_assoc ms (set fs i (joined (node_in fs i) (base + length fs) rate)) (member_node k rate (base + i) (length (node_in fs i).members) ∷ [])
 
@@ -71,10 +72,12 @@ opened_on t g =
 pub put_on : (t : Tree) (g : Growth) (p : NodeId) (rate b : ℕ) → p.0 < length t.nodes → AreAmong (length t.nodes) g →
     put (kind.Dual p) rate b (level_on t g) ≡ level_on t (grown (length t.nodes) t.levels (kind.Dual p) rate b g)
 put_on t g p rate b old among = elim (cases_lt b (length g.packs)) [
-  | inl l ↦ put_old (kind.Dual p) rate b (level_on t g) l ∙ joined_on t g p rate b old (among b l).0 ∙ ap (level_on t) (sym (grown_old (length t.nodes) t.levels (kind.Dual p) rate b g l))
+  | inl l ↦ put_old (kind.Dual p) rate b (level_on t g) l ∙ joined_on t g p rate b old (among b l).0 ∙ ap (level_on t)
+      (sym (grown_old (length t.nodes) t.levels (kind.Dual p) rate b g l))
   | inr l ↦
       (let g1 : Growth = with_pack (length t.nodes) t.levels g in
-      let at : get_or g1.packs (length g.packs) 0 ≡ length t.nodes + length g.nodes = get_or_push g.packs (length t.nodes + length g.nodes) 0 (length g.packs) refl in
+      let at : get_or g1.packs (length g.packs) 0 ≡ length t.nodes + length g.nodes = get_or_push g.packs (length t.nodes + length g.nodes) 0
+      (length g.packs) refl in
       put_new (kind.Dual p) rate b (level_on t g) l
       ∙ ap (joined_at (kind.Dual p) rate (length g.packs)) (opened_on t g)
       ∙ joined_on t g1 p rate (length g.packs) old (omega (arith, at))

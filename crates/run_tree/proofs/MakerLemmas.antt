@@ -1,5 +1,6 @@
 -- What the maker of trees keeps.
-use Rattle.std.proofs.Common.{◌≡◌, ℕ, suc, ◌+◌, ◌-◌, ◌<◌, ◌≤◌, Bool, nat_lt, List, [], ◌∷◌, ◌++◌, length, get_or, set, ap, subst, sym, ◌∙◌, refl, arith, inl, inr, Result, Ok, Err, OnOk, OnErr, zero-add}
+use Rattle.std.proofs.Common.{◌≡◌, ℕ, suc, ◌+◌, ◌-◌, ◌<◌, ◌≤◌, Bool, nat_lt, List, [], ◌∷◌, ◌++◌, length, get_or, set, ap, subst, sym, ◌∙◌, refl}
+use Rattle.std.proofs.Common.{arith, inl, inr, Result, Ok, Err, OnOk, OnErr, zero-add}
 use Rattle.std.proofs.lemmas.Bool.{cases_lt}
 use Rattle.std.proofs.lemmas.List.{get_or-map, length-map}
 use Rattle.run_tree.proofs.PackLists.{filter_at, length-filter-le, length_apart}
@@ -39,15 +40,24 @@ joined_is m leaf rate b =
     let q : ℕ = get_or m.last b 0 in
     let e : q ≡ q - 0 = omega arith in
     let f : q ≡ 0 + (q - 0) = omega arith in
-    let F : ℕ → ℕ → ℕ → Making = λ (i h n : ℕ). making_with m (record { nodes = set m.tree.nodes i (joined (node_in m.tree.nodes i) n rate) ++ member_node (kind.Leaf leaf) rate h (length (node_in m.tree.nodes i).members) ∷ []; packs = m.last }) in
-    ap (λ n. F q q n) (sym (zero-add (length m.tree.nodes))) ∙ ap (λ h. F q h (0 + length m.tree.nodes)) f ∙ ap (λ i. F i (0 + (q - 0)) (0 + length m.tree.nodes)) e
+    let F : ℕ → ℕ → ℕ → Making = λ (i h n : ℕ). making_with m
+    (record {
+      nodes = set m.tree.nodes i (joined (node_in m.tree.nodes i) n rate) ++ member_node (kind.Leaf leaf) rate h
+          (length (node_in m.tree.nodes i).members) ∷ [];
+      packs = m.last;
+    }) in
+    ap (λ n. F q q n) (sym (zero-add (length m.tree.nodes))) ∙ ap (λ h. F q h (0 + length m.tree.nodes)) f
+    ∙ ap (λ i. F i (0 + (q - 0)) (0 + length m.tree.nodes)) e
 
 opened_is : (m : Making) → opened m ≡ making_with m (with_pack 0 (m.tree.levels - 1) (growth_of m))
-opened_is m = ap (λ n. making_with m (record { nodes = m.tree.nodes ++ pack_node (m.tree.levels - 1) ∷ []; packs = m.last ++ n ∷ [] })) (sym (zero-add (length m.tree.nodes)))
+opened_is m = ap (λ n. making_with m (record { nodes = m.tree.nodes ++ pack_node (m.tree.levels - 1) ∷ []; packs = m.last ++ n ∷ [] }))
+    (sym (zero-add (length m.tree.nodes)))
 
-pub put_leaf_is : (m : Making) (leaf : Leaf) (rate b : ℕ) → put (kind.Leaf leaf) rate b m ≡ making_with m (grown 0 (m.tree.levels - 1) (kind.Leaf leaf) rate b (growth_of m))
+pub put_leaf_is : (m : Making) (leaf : Leaf) (rate b : ℕ) → put (kind.Leaf leaf) rate b m ≡ making_with m (grown 0 (m.tree.levels - 1) (kind.Leaf leaf) rate
+    b (growth_of m))
 put_leaf_is m leaf rate b = elim (cases_lt b (length m.last)) [
-  | inl l ↦ put_old (kind.Leaf leaf) rate b m l ∙ joined_is m leaf rate b ∙ ap (making_with m) (sym (grown_old 0 (m.tree.levels - 1) (kind.Leaf leaf) rate b (growth_of m) l))
+  | inl l ↦ put_old (kind.Leaf leaf) rate b m l ∙ joined_is m leaf rate b ∙ ap (making_with m) (sym (grown_old 0 (m.tree.levels - 1) (kind.Leaf leaf) rate b
+      (growth_of m) l))
   | inr l ↦
       put_new (kind.Leaf leaf) rate b m l
       ∙ ap (joined_at (kind.Leaf leaf) rate (length m.last)) (opened_is m)
@@ -56,7 +66,8 @@ put_leaf_is m leaf rate b = elim (cases_lt b (length m.last)) [
 ]
 
 -- the limits stay with a leaf more
-leaf_making : (lower : List (List ℕ)) (m : Making) (leaf : Leaf) (rate : ℕ) (h : Growth) → IsMaker lower m → m.tree.levels ≡ 1 → leaf_count m.tree < 1280 → IsStep 0 (m.tree.levels - 1) (kind.Leaf leaf) rate (growth_of m) h → IsMaking (making_with m h)
+leaf_making : (lower : List (List ℕ)) (m : Making) (leaf : Leaf) (rate : ℕ) (h : Growth) → IsMaker lower m → m.tree.levels ≡ 1 → leaf_count m.tree < 1280 →
+    IsStep 0 (m.tree.levels - 1) (kind.Leaf leaf) rate (growth_of m) h → IsMaking (making_with m h)
 leaf_making lower m leaf rate h was only few s =
     let k = was.making in
     let before = leaf_count_is m.tree in
@@ -83,7 +94,8 @@ leaf_making lower m leaf rate h was only few s =
       first_nodes = λ _. nodes_few;
     }
 
-leaf_levels : (lower : List (List ℕ)) (m : Making) (leaf : Leaf) (rate : ℕ) (h : Growth) → HasLevels lower m → m.tree.levels ≡ 1 → IsStep 0 (m.tree.levels - 1) (kind.Leaf leaf) rate (growth_of m) h → HasLevels lower (making_with m h)
+leaf_levels : (lower : List (List ℕ)) (m : Making) (leaf : Leaf) (rate : ℕ) (h : Growth) → HasLevels lower m → m.tree.levels ≡ 1 →
+    IsStep 0 (m.tree.levels - 1) (kind.Leaf leaf) rate (growth_of m) h → HasLevels lower (making_with m h)
 leaf_levels lower m leaf rate h was only s =
     let count = was.count in
     let level : m.tree.levels - 1 ≡ length lower = omega (arith, count) in
@@ -105,7 +117,8 @@ leaf_kept lower m leaf rate b was only few =
     record { making = leaf_making lower m leaf rate h was only few s; levels = leaf_levels lower m leaf rate h was.levels only s }
 
 -- what holds both where a call went well and where it left all as it was
-pub either_way : {T E : Type 0} (P : Growth → Type 0) (old new made : Growth) (r : Result T E) → P old → P made → OnOk r (new ≡ made) → OnErr r (new ≡ old) → P new
+pub either_way : {T E : Type 0} (P : Growth → Type 0) (old new made : Growth) (r : Result T E) → P old → P made → OnOk r (new ≡ made) →
+    OnErr r (new ≡ old) → P new
 either_way P old new made (Ok x) was is ok err = subst P (sym ok) is
 either_way P old new made (Err e) was is ok err = subst P (sym err) was
 
@@ -129,11 +142,13 @@ lower_have lower m packs was e =
       rates = λ i l. let low = ltb-true (rate m.tree (get_or (lower_packs m) i 0)) m.tree.scale (at i l).1 in omega (arith, low);
     })
 
-pub named_have : (lower : List (List ℕ)) (m : Making) (order packs : List ℕ) → IsMaker lower m → NamesLower m order → packs ≡ packs_named m order → HaveDuals m packs
+pub named_have : (lower : List (List ℕ)) (m : Making) (order packs : List ℕ) → IsMaker lower m → NamesLower m order → packs ≡ packs_named m order →
+    HaveDuals m packs
 named_have lower m order packs was names e =
     let place : ℕ → ℕ = λ i. get_or m.last i 0 in
     let long : length (packs_named m order) ≡ length order = length-map order place in
-    let at : (k : ℕ) → k < length (packs_named m order) → get_or (packs_named m order) k 0 ≡ place (get_or order k 0) = λ k l. get_or-map place order k 0 0 (omega (arith, l, long)) in
+    let at : (k : ℕ) → k < length (packs_named m order) → get_or (packs_named m order) k 0 ≡ place (get_or order k 0) = λ k l. get_or-map place order k 0 0
+    (omega (arith, l, long)) in
     let few = length_apart order (length m.last) (λ k l. (names.lower k l).0) names.once in
     let few_last = was.making.few_packs in
     subst (HaveDuals m) (sym e) (record {

@@ -1,5 +1,6 @@
 -- The kinds of nodes in a row, which settle the packs of each level and the number of leaves.
-use Rattle.std.proofs.Common.{◌≡◌, ℕ, suc, ◌+◌, ◌<◌, ◌&&◌, eqb, cond, Bool, true, false, List, [], ◌∷◌, ◌++◌, map, filter, length, get_or, set, ap, ap₂, sym, ◌∙◌, refl, arith, add-one, inl, inr, zero-add}
+use Rattle.std.proofs.Common.{◌≡◌, ℕ, suc, ◌+◌, ◌<◌, ◌&&◌, eqb, cond, Bool, true, false, List, [], ◌∷◌, ◌++◌, map, filter, length, get_or, set, ap}
+use Rattle.std.proofs.Common.{ap₂, sym, ◌∙◌, refl, arith, add-one, inl, inr, zero-add}
 use Rattle.std.specs.List.{range_with_len}
 use Rattle.std.proofs.lemmas.Bool.{cases_Bool, cond-true, cond-false}
 use Rattle.std.proofs.lemmas.List.{map-append, length-map}
@@ -40,12 +41,14 @@ packs_from-append l n (k ∷ ks) js =
     let e : suc n + length ks ≡ n + suc (length ks) = omega arith in
     let ih = packs_from-append l (suc n) ks js ∙ ap (λ m. packs_from l (suc n) ks ++ packs_from l m js) e in
     elim (cases_Bool (is_of_level l k)) [
-      | inl on ↦ packs_from_at l n k (ks ++ js) on ∙ ap (λ xs. n ∷ xs) ih ∙ sym (ap (λ xs. xs ++ packs_from l (n + suc (length ks)) js) (packs_from_at l n k ks on))
+      | inl on ↦ packs_from_at l n k (ks ++ js) on ∙ ap (λ xs. n ∷ xs) ih ∙ sym (ap (λ xs. xs ++ packs_from l (n + suc (length ks)) js)
+          (packs_from_at l n k ks on))
       | inr off ↦ packs_from_off l n k (ks ++ js) off ∙ ih ∙ sym (ap (λ xs. xs ++ packs_from l (n + suc (length ks)) js) (packs_from_off l n k ks off))
     ]
 
 -- a test that agrees with the kinds
-passing_is : (l n : ℕ) (p : ℕ → Bool) (xs : List Node) → ((i : ℕ) → i < length xs → p (n + i) ≡ is_of_level l (node_in xs i).kind) → filter p (range_with_len n (length xs)) ≡ packs_from l n (kinds xs)
+passing_is : (l n : ℕ) (p : ℕ → Bool) (xs : List Node) → ((i : ℕ) → i < length xs → p (n + i) ≡ is_of_level l (node_in xs i).kind) →
+    filter p (range_with_len n (length xs)) ≡ packs_from l n (kinds xs)
 passing_is l n p [] same = refl
 passing_is l n p (x ∷ xs) same =
     let here : p n ≡ is_of_level l x.kind = (let e : n ≡ n + 0 = omega arith in ap p e ∙ same 0 (omega arith)) in
@@ -64,7 +67,8 @@ leaves_in ks = sum_to (length ks) (λ x. bit (is_leaf (get_or ks x (kind.Pack 0)
 
 pub leaf_count_is : (t : Tree) → leaf_count t ≡ leaves_in (kinds t.nodes)
 leaf_count_is t =
-    sum_to-same (length t.nodes) (λ x. bit (is_leaf (kind_at t x))) (λ x. bit (is_leaf (get_or (kinds t.nodes) x (kind.Pack 0)))) (λ x b. ap (λ k. bit (is_leaf k)) (sym (get_or-map (λ (n : Node). n.kind) t.nodes x no_node)))
+    sum_to-same (length t.nodes) (λ x. bit (is_leaf (kind_at t x))) (λ x. bit (is_leaf (get_or (kinds t.nodes) x (kind.Pack 0))))
+    (λ x b. ap (λ k. bit (is_leaf k)) (sym (get_or-map (λ (n : Node). n.kind) t.nodes x no_node)))
     ∙ ap (λ n. sum_to n (λ x. bit (is_leaf (get_or (kinds t.nodes) x (kind.Pack 0))))) (sym (length-map t.nodes (λ (n : Node). n.kind)))
 
 -- ---- the kinds of nodes that are made

@@ -17,7 +17,10 @@ module _ (of_leaf : Leaf → ℕ → Bool) (t : Tree) (h : IsTree t) (leaves : H
   member_value p k u i l f same = go (kind_of (kind_at t (member t p k)))
     where
       go : KindOf (kind_at t (member t p k)) → member_boundary of_leaf f (kind_at t (member t p k)) u ≡ is_boundary of_leaf t (member t p k) u
-      go (inl a_leaf) = member_leaf of_leaf f (kind_at t (member t p k)) u a_leaf ∙ sym (bound_leaf of_leaf t h (member t p k) ((h.members_are p k i l).0.0, a_leaf) u)
+      go (inl a_leaf) = member_leaf of_leaf f (kind_at t (member t p k)) u a_leaf ∙ sym (bound_leaf of_leaf t h (member t p k) (
+        (h.members_are p k i l).0.0,
+        a_leaf,
+      ) u)
       go (inr (inl a_dual)) =
           (let d = h.duals_are (member t p k) ((h.members_are p k i l).0.0, a_dual) in
           let up = d.2 in
@@ -29,14 +32,16 @@ module _ (of_leaf : Leaf → ℕ → Bool) (t : Tree) (h : IsTree t) (leaves : H
       go (inr (inr a_pack)) = absurd (both_ways (is_pack (kind_at t (member t p k))) (h.members_are p k i l).0.1 a_pack)
 
   -- where no member has a boundary, the pack has none
-  pub no_member_bound : (p u : ℕ) → IsPack t p → ((k : ℕ) → k < length (members t p) → is_boundary of_leaf t (member t p k) u ≡ false) → is_boundary of_leaf t p u ≡ false
+  pub no_member_bound : (p u : ℕ) → IsPack t p → ((k : ℕ) → k < length (members t p) → is_boundary of_leaf t (member t p k) u ≡ false) →
+      is_boundary of_leaf t p u ≡ false
   no_member_bound p u i none = bound_pack of_leaf t h p i u ∙ go (level t p) refl
     where
       go : (n : ℕ) → level t p ≡ n → pack_boundary of_leaf t n p u ≡ false
       go zero at = any_of_none (λ x. member_boundary of_leaf (λ q v. false) (kind_at t x) u) (members t p)
           (λ k l. member_value p k u i l (λ q v. false) (λ q j up. absurd (omega (arith, up, at))) ∙ none k l)
       go (suc n) at = any_of_none (λ x. member_boundary of_leaf (λ q v. pack_boundary of_leaf t n q v) (kind_at t x) u) (members t p)
-          (λ k l. member_value p k u i l (λ q v. pack_boundary of_leaf t n q v) (λ q j up. ap (λ m. pack_boundary of_leaf t m q u) (omega (arith, up, at))) ∙ none k l)
+          (λ k l. member_value p k u i l (λ q v. pack_boundary of_leaf t n q v) (λ q j up. ap (λ m. pack_boundary of_leaf t m q u) (omega (arith, up, at)))
+          ∙ none k l)
 
   -- a pack's window ends with the first of its members'
   pub pack_end : (p k u : ℕ) → IsPack t p → k < length (members t p) →
@@ -45,10 +50,12 @@ module _ (of_leaf : Leaf → ℕ → Bool) (t : Tree) (h : IsTree t) (leaves : H
   pack_end p k u i l least =
       let has = pack_has of_leaf t h leaves (level t p) p i refl in
       let e = end_is (is_boundary of_leaf t (member t p k)) (member_has of_leaf t h leaves (member t p k) (h.members_are p k i l).0) u in
-      same_IsEnd (is_boundary of_leaf t p) u (window_end (is_boundary of_leaf t p) u) (window_end (is_boundary of_leaf t (member t p k)) u) (end_is (is_boundary of_leaf t p) has u)
+      same_IsEnd (is_boundary of_leaf t p) u (window_end (is_boundary of_leaf t p) u) (window_end (is_boundary of_leaf t (member t p k)) u)
+      (end_is (is_boundary of_leaf t p) has u)
       (record {
         above = e.above;
         here = bound_member of_leaf t h p k i l (window_end (is_boundary of_leaf t (member t p k)) u) e.here;
         first = λ v low high. no_member_bound p v i (λ j m.
-            (end_is (is_boundary of_leaf t (member t p j)) (member_has of_leaf t h leaves (member t p j) (h.members_are p j i m).0) u).first v low (let b = least j m in omega (arith, b)));
+            (end_is (is_boundary of_leaf t (member t p j)) (member_has of_leaf t h leaves (member t p j) (h.members_are p j i m).0) u).first v low
+            (let b = least j m in omega (arith, b)));
       })

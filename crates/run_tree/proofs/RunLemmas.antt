@@ -1,5 +1,6 @@
 -- Which nodes run, tick by tick.
-use Rattle.std.proofs.Common.{Bool, None, Option, Some, [], ap, ap₂, arith, cond, count_by, drop, false, get_or, inl, inr, length, length-append, not, refl, subst, suc, sym, take, true, zero, ℕ, ◌&&◌, ◌*◌, ◌-◌, ◌/◌, ◌<◌, ◌∙◌, ◌∷◌, ◌≡◌, ◌≤◌}
+use Rattle.std.proofs.Common.{Bool, None, Option, Some, [], ap, ap₂, arith, cond, count_by, drop, false, get_or, inl, inr, length, length-append, not}
+use Rattle.std.proofs.Common.{refl, subst, suc, sym, take, true, zero, ℕ, ◌&&◌, ◌*◌, ◌-◌, ◌/◌, ◌<◌, ◌∙◌, ◌∷◌, ◌≡◌, ◌≤◌}
 use Rattle.std.proofs.lemmas.Bool.{cases_lt}
 use Rattle.std.proofs.lemmas.List.{take-append-le, take_all}
 use Rattle.std.proofs.lemmas.List.FromFn.{get_or-map-range_with_len}
@@ -19,7 +20,8 @@ use Rattle.run_tree.proofs.BoundaryLemmas.{member_has}
 use Rattle.run_tree.specs.declared.kinds.Kind.TheVariants as kind
 
 -- a pack's run is said by the levels above it, a member's by its pack and the pick
-pub node_runs_pack : (t : Tree) (picked : ℕ → Bool) (m : Kind) (x : ℕ) → is_pack m ≡ true → node_runs t picked m x ≡ pack_runs t picked (t.levels - 1 - level_of m) x
+pub node_runs_pack : (t : Tree) (picked : ℕ → Bool) (m : Kind) (x : ℕ) → is_pack m ≡ true → node_runs t picked m x ≡ pack_runs t picked
+    (t.levels - 1 - level_of m) x
 node_runs_pack t picked (kind.Leaf leaf) x e = cc
 node_runs_pack t picked (kind.Pack level) x e = refl
 node_runs_pack t picked (kind.Dual primal) x e = cc
@@ -30,7 +32,8 @@ node_runs_member t picked (kind.Leaf leaf) x e = refl
 node_runs_member t picked (kind.Pack level) x e = cc
 node_runs_member t picked (kind.Dual primal) x e = refl
 
-pub pack_runs_dual : (t : Tree) (picked : ℕ → Bool) (above p d : ℕ) → dual t p ≡ Some d → pack_runs t picked (suc above) p ≡ not (pack_runs t picked above (home t d) && picked d)
+pub pack_runs_dual : (t : Tree) (picked : ℕ → Bool) (above p d : ℕ) → dual t p ≡ Some d → pack_runs t picked (suc above) p ≡ not (pack_runs t picked above
+    (home t d) && picked d)
 pack_runs_dual t picked above p d e = ap (λ o. unless_dual o (λ c. pack_runs t picked above (home t c) && picked c)) e
 
 module _ (t : Tree) (h : IsTree t) (remain end : ℕ → ℕ) where
@@ -74,7 +77,8 @@ module _ (t : Tree) (h : IsTree t) (picked picked' : ℕ → Bool) (same : (x : 
   same_pack_runs zero p i = refl
   same_pack_runs (suc above) p i = go (same_pack_runs above) (dual t p) refl
     where
-      go : ((q : ℕ) → IsPack t q → pack_runs t picked above q ≡ pack_runs t picked' above q) → (o : Option ℕ) → dual t p ≡ o → pack_runs t picked (suc above) p ≡ pack_runs t picked' (suc above) p
+      go : ((q : ℕ) → IsPack t q → pack_runs t picked above q ≡ pack_runs t picked' above q) → (o : Option ℕ) → dual t p ≡ o →
+          pack_runs t picked (suc above) p ≡ pack_runs t picked' (suc above) p
       go ih None e =
           ap (λ o. unless_dual o (λ c. pack_runs t picked above (home t c) && picked c)) e
           ∙ sym (ap (λ o. unless_dual o (λ c. pack_runs t picked' above (home t c) && picked' c)) e)
@@ -102,7 +106,8 @@ module _ (of_leaf : Leaf → ℕ → Bool) (t : Tree) where
   -- there are as many ticks as passed
   pub length-ticks : (n : ℕ) → length (ticks_below of_leaf t n) ≡ n
   length-ticks zero = refl
-  length-ticks (suc n) = let ih = length-ticks n in let a = length-append (ticks_below of_leaf t n) (next_tick of_leaf t (ticks_below of_leaf t n) ∷ []) in omega (arith, ih, a)
+  length-ticks (suc n) = let ih = length-ticks n in let a = length-append (ticks_below of_leaf t n) (next_tick of_leaf t (ticks_below of_leaf t n) ∷ []) in
+      omega (arith, ih, a)
 
   -- the first ticks are those of an earlier time
   pub take-ticks : (b n : ℕ) → b ≤ n → take b (ticks_below of_leaf t n) ≡ ticks_below of_leaf t b
@@ -116,7 +121,8 @@ module _ (of_leaf : Leaf → ℕ → Bool) (t : Tree) where
         | inr m ↦
             (let e : suc n ≡ b = omega arith in
             let long = length-ticks (suc n) in
-            subst (λ (x : ℕ). take x (ticks_below of_leaf t (suc n)) ≡ ticks_below of_leaf t x) e (take_all (suc n) (ticks_below of_leaf t (suc n)) (omega (arith, long))))
+            subst (λ (x : ℕ). take x (ticks_below of_leaf t (suc n)) ≡ ticks_below of_leaf t x) e (take_all (suc n) (ticks_below of_leaf t (suc n))
+            (omega (arith, long))))
       ]
 
   -- how often node x ran
@@ -130,7 +136,8 @@ module _ (of_leaf : Leaf → ℕ → Bool) (t : Tree) where
       omega (arith, ih, push, last)
 
   -- the rows from tick b on
-  pub count_from : (x b n : ℕ) → b ≤ n → count_by (λ row. get_or row x false) (drop b (ticks_below of_leaf t n)) ≡ ticks (runs of_leaf t x) n - ticks (runs of_leaf t x) b
+  pub count_from : (x b n : ℕ) → b ≤ n → count_by (λ row. get_or row x false) (drop b (ticks_below of_leaf t n)) ≡ ticks (runs of_leaf t x) n - ticks
+      (runs of_leaf t x) b
   count_from x b n l =
       let cut = sum_by-take-drop (λ row. cond (get_or row x false) 1 0) (ticks_below of_leaf t n) b in
       let front = ap (λ rows. count_by (λ row. get_or row x false) rows) (take-ticks b n l) in
@@ -163,4 +170,5 @@ module _ (of_leaf : Leaf → ℕ → Bool) (t : Tree) (h : IsTree t) where
 module _ (of_leaf : Leaf → ℕ → Bool) (t : Tree) (h : IsTree t) (leaves : HaveBoundaries of_leaf t) where
   -- a window begins no later than the tick that it holds
   pub on_time : (x n : ℕ) → IsMember t x → window_begin (is_boundary of_leaf t x) (n / t.scale) * t.scale ≤ n
-  on_time x n i = tick_from n (window_begin (is_boundary of_leaf t x) (n / t.scale)) t.scale h.scaled (begin_is (is_boundary of_leaf t x) (member_has of_leaf t h leaves x i).first (n / t.scale)).below
+  on_time x n i = tick_from n (window_begin (is_boundary of_leaf t x) (n / t.scale)) t.scale h.scaled (begin_is (is_boundary of_leaf t x)
+      (member_has of_leaf t h leaves x i).first (n / t.scale)).below

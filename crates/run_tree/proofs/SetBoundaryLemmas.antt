@@ -1,5 +1,6 @@
 -- The boundaries of the leaves of a set's tree.
-use Rattle.std.proofs.Common.{List, [], ap, arith, div-add-mod', eq-eqb, eqb, false, inl, inr, le-leb, le_refl, leb, length, mod-eq_of_lt, mod-lt, refl, suc, sym, true, zero, ℕ, ◌%◌, ◌&&◌, ◌*◌, ◌+◌, ◌-◌, ◌/◌, ◌<◌, ◌^◌, ◌∙◌, ◌∷◌, ◌≡◌, ◌≤◌}
+use Rattle.std.proofs.Common.{List, [], ap, arith, div-add-mod', eq-eqb, eqb, false, inl, inr, le-leb, le_refl, leb, length, mod-eq_of_lt, mod-lt}
+use Rattle.std.proofs.Common.{refl, suc, sym, true, zero, ℕ, ◌%◌, ◌&&◌, ◌*◌, ◌+◌, ◌-◌, ◌/◌, ◌<◌, ◌^◌, ◌∙◌, ◌∷◌, ◌≡◌, ◌≤◌}
 use Rattle.std.proofs.lemmas.Bool.{and_from, both_ways, cases_lt, ne_eqb, or_left, or_right}
 use Rattle.std.specs.List.{AllByRecursion}
 use native.Mathlib.Nat.{mul-mod_left}
@@ -29,8 +30,10 @@ multiples n p q = record {
 pub offset_at : (task : declared.Task) (k : ℕ) → task_boundary task (task.offset + k * task.period) ≡ true
 offset_at task k =
     let e : task.offset + k * task.period - task.offset ≡ k * task.period = omega arith in
-    or_right (eqb (task.offset + k * task.period) 0) (leb task.offset (task.offset + k * task.period) && eqb ((task.offset + k * task.period - task.offset) % task.period) 0)
-    (and_from (leb task.offset (task.offset + k * task.period)) (eqb ((task.offset + k * task.period - task.offset) % task.period) 0) (le-leb task.offset (task.offset + k * task.period) (omega arith))
+    or_right (eqb (task.offset + k * task.period) 0) (leb task.offset (task.offset + k * task.period) && eqb ((task.offset + k * task.period - task.offset)
+    % task.period) 0)
+    (and_from (leb task.offset (task.offset + k * task.period)) (eqb ((task.offset + k * task.period - task.offset) % task.period) 0)
+    (le-leb task.offset (task.offset + k * task.period) (omega arith))
     (eq-eqb ((task.offset + k * task.period - task.offset) % task.period) 0 (ap (λ x. x % task.period) e ∙ mul-mod_left k task.period)))
 
 -- 0, the offset, and a period after each further one
@@ -41,8 +44,12 @@ offset_multiples task p q r = record {
     | inl l ↦ (task.offset + 0 * task.period, omega (arith, l), omega (arith, r), offset_at task 0)
     | inr l ↦
         (let d = div-add-mod' (u - task.offset) task.period in
-        let m = mod-lt (u - task.offset) p in
-        (task.offset + ((u - task.offset) / task.period + 1) * task.period, omega (arith, d, m, l), omega (arith, d, m, q, l), offset_at task ((u - task.offset) / task.period + 1)))
+        let m = mod-lt (u - task.offset) p in (
+          task.offset + ((u - task.offset) / task.period + 1) * task.period,
+          omega (arith, d, m, l),
+          omega (arith, d, m, q, l),
+          offset_at task ((u - task.offset) / task.period + 1),
+        ))
   ];
 }
 

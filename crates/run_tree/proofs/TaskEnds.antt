@@ -1,5 +1,6 @@
 -- The boundaries of a leaf, one after the other.
-use Rattle.std.proofs.Common.{◌≡◌, ℕ, ◌+◌, ◌-◌, ◌*◌, ◌/◌, ◌%◌, ◌^◌, ◌<◌, ◌≤◌, ◌&&◌, ◌||◌, eqb, leb, Bool, List, false, ap, ap₂, arith, ◌∙◌, div-add-mod', mod-lt}
+use Rattle.std.proofs.Common.{◌≡◌, ℕ, ◌+◌, ◌-◌, ◌*◌, ◌/◌, ◌%◌, ◌^◌, ◌<◌, ◌≤◌, ◌&&◌, ◌||◌, eqb, leb, Bool, List, false, ap, ap₂, arith, ◌∙◌}
+use Rattle.std.proofs.Common.{div-add-mod', mod-lt}
 use native.Mathlib.Nat.{div-eq_of_lt-le}
 use Rattle.std.proofs.lemmas.Bool.{and_left, and_right, ne_eqb, lt-leb}
 use Rattle.sched_base.specs.declared.rows.Leaf.TheVariants.{Idle}
@@ -23,7 +24,8 @@ end_before task u l = record {
 }
 
 -- from the offset on, it is the end of the period
-pub end_after : (task : declared.Task) (u : ℕ) → 0 < task.period → task.offset ≤ u → IsEnd (task_boundary task) u (task.offset + ((u - task.offset) / task.period + 1) * task.period)
+pub end_after : (task : declared.Task) (u : ℕ) → 0 < task.period → task.offset ≤ u → IsEnd (task_boundary task) u
+    (task.offset + ((u - task.offset) / task.period + 1) * task.period)
 end_after task u p l =
     let o : ℕ = task.offset in
     let n : ℕ = task.period in
@@ -45,10 +47,13 @@ task_end_is task u e h x =
     let fits = h.work_fits in
     let period = h.period_fits in
     let offset = h.offset_fits in
-    same_IsEnd (task_boundary task) u e (window_end (task_boundary task) u) x (end_is (task_boundary task) (offset_multiples task (omega (arith, work, fits)) (omega (arith, period)) (omega (arith, offset))) u)
+    same_IsEnd (task_boundary task) u e (window_end (task_boundary task) u) x (end_is (task_boundary task) (offset_multiples task
+    (omega (arith, work, fits)) (omega (arith, period)) (omega (arith, offset))) u)
 
 -- an idle leaf's boundaries are far apart
 pub idle_end : (tasks : List declared.Task) (number u : ℕ) → u < 2 ^ 32 → 2 ^ 33 ≡ window_end (set_boundary tasks (Idle number)) u
 idle_end tasks number u l =
     let b : ℕ → Bool = set_boundary tasks (Idle number) in
-    same_IsEnd b u (2 ^ 33) (window_end b u) (record { above = omega (arith, l); here = mod_itself 1 (2 ^ 33); first = λ v low high. idle_late tasks number v (omega (arith, low)) high }) (end_is b (multiples (2 ^ 33) (omega arith) (omega arith)) u)
+    same_IsEnd b u (2 ^ 33) (window_end b u)
+    (record { above = omega (arith, l); here = mod_itself 1 (2 ^ 33); first = λ v low high. idle_late tasks number v (omega (arith, low)) high })
+    (end_is b (multiples (2 ^ 33) (omega arith) (omega arith)) u)

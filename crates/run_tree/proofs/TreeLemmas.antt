@@ -19,7 +19,8 @@ module _ (t : Tree) where
 
 -- the packs of level 0 are packs
 pub first_is_pack : (t : Tree) (h : IsTree t) (i : ℕ) → i < length (packs_at t 0) → IsPack t (get_or (packs_at t 0) i 0)
-first_is_pack t h i l = let r = first_from (at_level t 0) (length t.nodes) 0 i l in (pack_at t 0 (get_or (packs_at t 0) i 0) (let b = r.0 in omega (arith, b)) r.1).0
+first_is_pack t h i l = let r = first_from (at_level t 0) (length t.nodes) 0 i l in (pack_at t 0 (get_or (packs_at t 0) i 0) (let b = r.0 in
+    omega (arith, b)) r.1).0
 
 -- a member of a pack of level 0 is a leaf
 pub leaf_at_level : (t : Tree) (h : IsTree t) (x : ℕ) → IsMember t x → level t (home t x) ≡ 0 → is_leaf (kind_at t x) ≡ true
@@ -31,8 +32,10 @@ leaf_at_level t h x i low = go (kind_of (kind_at t x))
     go (inr (inr a_pack)) = absurd (both_ways (is_pack (kind_at t x)) i.1 a_pack)
 
 -- over the packs of level 0, by place or by node
-pub over_packs : (t : Tree) (g : ℕ → ℕ) → sum_to (length (packs_at t 0)) (λ i. g (get_or (packs_at t 0) i 0)) ≡ sum_to (length t.nodes) (λ p. bit (at_level t 0 p) * g p)
+pub over_packs : (t : Tree) (g : ℕ → ℕ) → sum_to (length (packs_at t 0)) (λ i. g (get_or (packs_at t 0) i 0)) ≡ sum_to (length t.nodes)
+    (λ p. bit (at_level t 0 p) * g p)
 over_packs t g =
     sum_list_places g (packs_at t 0)
     ∙ sum_list_passing g (at_level t 0) (length t.nodes) 0
-    ∙ sum_to-same (length t.nodes) (λ k. bit (at_level t 0 (0 + k)) * g (0 + k)) (λ p. bit (at_level t 0 p) * g p) (λ k l. ap (λ x. bit (at_level t 0 x) * g x) (zero-add k))
+    ∙ sum_to-same (length t.nodes) (λ k. bit (at_level t 0 (0 + k)) * g (0 + k)) (λ p. bit (at_level t 0 p) * g p)
+    (λ k l. ap (λ x. bit (at_level t 0 x) * g x) (zero-add k))

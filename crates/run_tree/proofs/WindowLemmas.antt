@@ -122,7 +122,8 @@ windows_of b h = record {
 pub end_first : (b c : ℕ → Bool) → HasBoundaries b → HasBoundaries c → ((v : ℕ) → b v ≡ true → c v ≡ true) → (u : ℕ) → window_end c u ≤ window_end b u
 end_first b c h k sub u =
     elim (cases_lt (window_end b u) (window_end c u)) [
-      | inl l ↦ (let x = end_is b h u in absurd (both_ways (c (window_end b u)) ((end_is c k u).first (window_end b u) x.above l) (sub (window_end b u) x.here)))
+      | inl l ↦ (let x = end_is b h u in absurd (both_ways (c (window_end b u)) ((end_is c k u).first (window_end b u) x.above l)
+          (sub (window_end b u) x.here)))
       | inr l ↦ l
     ]
 
@@ -130,7 +131,8 @@ end_first b c h k sub u =
 pub begin_last : (b c : ℕ → Bool) → HasBoundaries b → HasBoundaries c → ((v : ℕ) → b v ≡ true → c v ≡ true) → (u : ℕ) → window_begin b u ≤ window_begin c u
 begin_last b c h k sub u =
     elim (cases_lt (window_begin c u) (window_begin b u)) [
-      | inl l ↦ (let x = begin_is b h.first u in absurd (both_ways (c (window_begin b u)) ((begin_is c k.first u).last (window_begin b u) l x.below) (sub (window_begin b u) x.here)))
+      | inl l ↦ (let x = begin_is b h.first u in absurd (both_ways (c (window_begin b u)) ((begin_is c k.first u).last (window_begin b u) l x.below)
+          (sub (window_begin b u) x.here)))
       | inr l ↦ l
     ]
 

@@ -21,7 +21,8 @@ AllByRecursion-append P (x ∷ xs) ys a b = (a.0, AllByRecursion-append P xs ys 
 -- each item of the rows of all lanes stands at a place
 AllByRecursion-all_rows : (P : Row → Type 0) (lanes : List (List Row)) → ((p k : ℕ) (r : Row) → RowAt lanes p k r → P r) → AllByRecursion P (all_rows lanes)
 AllByRecursion-all_rows P [] h = tt
-AllByRecursion-all_rows P (lane ∷ lanes) h = AllByRecursion-append P lane (all_rows lanes) (AllByRecursion-at P lane (λ k r at. h 0 k r at)) (AllByRecursion-all_rows P lanes (λ p k r at. h (suc p) k r at))
+AllByRecursion-all_rows P (lane ∷ lanes) h = AllByRecursion-append P lane (all_rows lanes) (AllByRecursion-at P lane (λ k r at. h 0 k r at))
+    (AllByRecursion-all_rows P lanes (λ p k r at. h (suc p) k r at))
 
 -- place (p, k) comes before place (q, j)
 abbrev Before : ℕ → ℕ → ℕ → ℕ → Type 0
@@ -37,12 +38,14 @@ AllApart-append P (x ∷ xs) ys within across rest = (
 )
 
 -- what holds of any two places in order holds of any two rows
-AllApart-all_rows : (P : Row → Row → Type 0) (lanes : List (List Row)) → ((p k q j : ℕ) (r s : Row) → Before p k q j → RowAt lanes p k r → RowAt lanes q j s → P r s) → AllApart P (all_rows lanes)
+AllApart-all_rows : (P : Row → Row → Type 0) (lanes : List (List Row)) → ((p k q j : ℕ) (r s : Row) → Before p k q j → RowAt lanes p k r →
+    RowAt lanes q j s → P r s) → AllApart P (all_rows lanes)
 AllApart-all_rows P [] h = tt
 AllApart-all_rows P (lane ∷ lanes) h = AllApart-append P lane (all_rows lanes)
     (λ k j r s lt at there. h 0 k 0 j r s (inr (refl, lt)) at there)
     (λ k r at. AllByRecursion-all_rows (P r) lanes (λ q j s there. h 0 k (suc q) j r s (inl (omega arith)) at there))
-    (AllApart-all_rows P lanes (λ p k q j r s before at there. h (suc p) k (suc q) j r s (elim before [ inl lt ↦ inl (omega arith) | inr same ↦ inr (ap suc same.0, same.1) ]) at there))
+    (AllApart-all_rows P lanes (λ p k q j r s before at there. h (suc p) k (suc q) j r s
+    (elim before [ inl lt ↦ inl (omega arith) | inr same ↦ inr (ap suc same.0, same.1) ]) at there))
 
 -- the rows of an earlier round end by the time that those of a later one start
 pub earlier_ends : (lanes : List (List Row)) → IsTable lanes → (p q k j : ℕ) (r s : Row) → k < j → RowAt lanes p k r → RowAt lanes q j s → r.end ≤ s.start
@@ -79,12 +82,14 @@ module _ (lanes part : List (List Row)) (h : IsTable lanes) (within : (p k : ℕ
 
   -- no task has two rows of the part at once
   pub tasks_apart : AllApart (λ r s. (t : ℕ) → is_of_task t r.leaf ≡ true → is_of_task t s.leaf ≡ true → DontOverlap r s) (all_rows part)
-  tasks_apart = AllApart-all_rows (λ r s. (t : ℕ) → is_of_task t r.leaf ≡ true → is_of_task t s.leaf ≡ true → DontOverlap r s) part (λ p k q j r s before at there t is is'.
+  tasks_apart = AllApart-all_rows (λ r s. (t : ℕ) → is_of_task t r.leaf ≡ true → is_of_task t s.leaf ≡ true → DontOverlap r s) part
+      (λ p k q j r s before at there t is is'.
       let at' = within p k r at in
       let there' = within q j s there in
       elim (cases_order k j) [
         | inl same ↦ (
-            let one : p ≡ q = h.once p q k r s (record { 0 = t }) at' (subst (λ n. RowAt lanes q n s) (sym same) there') (task_from_is_of_task t r.leaf is) (task_from_is_of_task t s.leaf is') in
+            let one : p ≡ q = h.once p q k r s (record { 0 = t }) at' (subst (λ n. RowAt lanes q n s) (sym same) there') (task_from_is_of_task t r.leaf is)
+            (task_from_is_of_task t s.leaf is') in
             elim before [ inl lt ↦ absurd (omega (arith, one)) | inr later ↦ absurd (omega (arith, later.1, same)) ]
             )
         | inr rest ↦ elim rest [

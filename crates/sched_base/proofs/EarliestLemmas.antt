@@ -1,5 +1,6 @@
 -- What `earliest` answers.
-use Rattle.std.proofs.Common.{Bool, List, None, Option, Some, [], ap, ap₂, arith, false, get_or, inl, inr, le_refl, leb, length, ltb, map, refl, suc, sym, true, zero, ℕ, ◌&&◌, ◌<◌, ◌∙◌, ◌∷◌, ◌≡◌, ◌≤◌, ◌⊎◌}
+use Rattle.std.proofs.Common.{Bool, List, None, Option, Some, [], ap, ap₂, arith, false, get_or, inl, inr, le_refl, leb, length, ltb, map, refl, suc}
+use Rattle.std.proofs.Common.{sym, true, zero, ℕ, ◌&&◌, ◌<◌, ◌∙◌, ◌∷◌, ◌≡◌, ◌≤◌, ◌⊎◌}
 use Rattle.std.proofs.lemmas.Bool.{and_cases, and_parts, cases_lt, eqb-true, leb-false, leb-true, ltb-false, ltb-true}
 use Rattle.sched_base.specs.declared.candidates.Candidate.{Candidate}
 use Rattle.sched_base.specs.Candidates.{IsEarliest, candidate_at, earlier_of, earliest, is_at}
@@ -22,7 +23,8 @@ best_before c cs None h = go (ltb 0 c.remain) refl
     go false e = elim [ zero ↦ λ l. (let z = ltb-false 0 c.remain e in omega (arith, z)) | suc j ↦ λ l. h j (omega arith) ]
 best_before c cs (Some k) h = go (ltb 0 c.remain && leb c.end ((candidate_at cs k).end)) refl
   where
-    go : (b : Bool) → (ltb 0 c.remain && leb c.end ((candidate_at cs k).end)) ≡ b → IsBestOf (c ∷ cs) (suc (length cs)) (elim b [ true ↦ Some 0 | false ↦ Some (suc k) ])
+    go : (b : Bool) → (ltb 0 c.remain && leb c.end ((candidate_at cs k).end)) ≡ b → IsBestOf (c ∷ cs) (suc (length cs))
+        (elim b [ true ↦ Some 0 | false ↦ Some (suc k) ])
     go true e =
         let both = and_parts (ltb 0 c.remain) (leb c.end ((candidate_at cs k).end)) e in
         let by = leb-true c.end ((candidate_at cs k).end) both.1 in
@@ -33,7 +35,8 @@ best_before c cs (Some k) h = go (ltb 0 c.remain && leb c.end ((candidate_at cs 
             | zero ↦ λ l s. inr (refl, le_refl 0)
             | suc j ↦ λ l s. elim (h.first j (omega arith) s) [
               | inl less ↦ inl (omega (arith, less, by))
-              | inr same ↦ (let q = same.0 in elim (cases_lt c.end ((candidate_at cs j).end)) [ inl m ↦ inl m | inr m ↦ inr (omega (arith, q, by, m), omega arith) ])
+              | inr same ↦ (let q = same.0 in elim (cases_lt c.end ((candidate_at cs j).end))
+                  [ inl m ↦ inl m | inr m ↦ inr (omega (arith, q, by, m), omega arith) ])
             ]
           ];
         }
@@ -62,7 +65,8 @@ same_best cs n None (Some k) h g = absurd (let z = h k g.below in let s = g.some
 same_best cs n (Some k) None h g = absurd (let z = g k h.below in let s = h.some in omega (arith, z, s))
 same_best cs n (Some k) (Some j) h g = ap (λ (x : ℕ). Some x) (go (h.first j g.below g.some) (g.first k h.below h.some))
   where
-    go : (((candidate_at cs k).end < (candidate_at cs j).end) ⊎ (((candidate_at cs k).end ≡ (candidate_at cs j).end) × (k ≤ j))) → (((candidate_at cs j).end < (candidate_at cs k).end) ⊎ (((candidate_at cs j).end ≡ (candidate_at cs k).end) × (j ≤ k))) → k ≡ j
+    go : (((candidate_at cs k).end < (candidate_at cs j).end) ⊎ (((candidate_at cs k).end ≡ (candidate_at cs j).end) × (k ≤ j))) →
+        (((candidate_at cs j).end < (candidate_at cs k).end) ⊎ (((candidate_at cs j).end ≡ (candidate_at cs k).end) × (j ≤ k))) → k ≡ j
     go (inl a) (inl b) = absurd (omega (arith, a, b))
     go (inl a) (inr b) = absurd (let q = b.0 in omega (arith, a, q))
     go (inr a) (inl b) = absurd (let q = a.0 in omega (arith, b, q))
@@ -73,7 +77,8 @@ pub earliest_is : (cs : List Candidate) (o : Option ℕ) → IsBestOf cs (length
 earliest_is cs o h = same_best cs (length cs) o (earliest cs) h (earliest_best cs)
 
 -- what is picked has something left, and ends no later than another one with something left
-pub IsEarliest-le : (cs : List Candidate) (n k j : ℕ) → IsEarliest cs n k → j < n → 0 < (candidate_at cs j).remain → (candidate_at cs k).end ≤ (candidate_at cs j).end
+pub IsEarliest-le : (cs : List Candidate) (n k j : ℕ) → IsEarliest cs n k → j < n → 0 < (candidate_at cs j).remain →
+    (candidate_at cs k).end ≤ (candidate_at cs j).end
 IsEarliest-le cs n k j best l some = elim (best.first j l some) [ inl less ↦ omega (arith, less) | inr same ↦ (let e = same.0 in omega (arith, e)) ]
 
 -- what is at k is k
@@ -90,7 +95,8 @@ abbrev pub listed : (ℕ → ℕ) → (ℕ → ℕ) → List ℕ → List Candid
 listed end remain ms = map (λ m. record { end = end m; remain = remain m }) ms
 
 -- the candidate of a member
-pub listed_at : (end remain : ℕ → ℕ) (ms : List ℕ) (k : ℕ) → k < length ms → candidate_at (listed end remain ms) k ≡ record { end = end (get_or ms k 0); remain = remain (get_or ms k 0) }
+pub listed_at : (end remain : ℕ → ℕ) (ms : List ℕ) (k : ℕ) → k < length ms → candidate_at (listed end remain ms) k ≡ record
+    { end = end (get_or ms k 0); remain = remain (get_or ms k 0) }
 listed_at end remain [] k l = absurd (omega arith)
 listed_at end remain (m ∷ ms) zero l = refl
 listed_at end remain (m ∷ ms) (suc k) l = listed_at end remain ms k (omega arith)

@@ -1,5 +1,6 @@
 -- On how many processors a pack is, and how many are free.
-use Rattle.std.proofs.Common.{Bool, List, None, Option, Some, [], ap, ap₂, arith, cond, count_by, eq-eqb, eqb, false, get_or, inl, inr, length, map, refl, replicate, subst, suc, sym, true, zero, ℕ, ◌*◌, ◌+◌, ◌<◌, ◌||◌, ◌∙◌, ◌∷◌, ◌≡◌, ◌≤◌}
+use Rattle.std.proofs.Common.{Bool, List, None, Option, Some, [], ap, ap₂, arith, cond, count_by, eq-eqb, eqb, false, get_or, inl, inr, length, map}
+use Rattle.std.proofs.Common.{refl, replicate, subst, suc, sym, true, zero, ℕ, ◌*◌, ◌+◌, ◌<◌, ◌||◌, ◌∙◌, ◌∷◌, ◌≡◌, ◌≤◌}
 use Rattle.std.proofs.lemmas.Bool.{both_ways, cases_Bool, cases_eq, cases_lt, ne_eqb}
 use Rattle.std.proofs.lemmas.List.{get_or_past}
 use Rattle.std.proofs.lemmas.List.Sums.{sum_by-cons}
@@ -49,13 +50,15 @@ held_kept runs (Some j ∷ onto) i =
       | inl on ↦
           (let e = ap (λ (b : Bool). bit (is_at (elim b as (λ x. Option ℕ) [ true ↦ Some j | false ↦ None ]) i)) on in
           elim (cases_eq j i) [
-            | inl same ↦ (let P : ℕ → Type 0 = λ x. is_running runs x ≡ true in let r = bit_at (is_running runs i) (subst P same on) in omega (arith, e, ap (λ w. bit (eqb j i) * w) r))
+            | inl same ↦ (let P : ℕ → Type 0 = λ x. is_running runs x ≡ true in let r = bit_at (is_running runs i) (subst P same on) in
+                omega (arith, e, ap (λ w. bit (eqb j i) * w) r))
             | inr ne ↦ (let z = bit_off (eqb j i) (ne_eqb j i ne) in omega (arith, e, z, ap (λ w. w * bit (is_running runs i)) z))
           ])
       | inr off ↦
           (let e = ap (λ (b : Bool). bit (is_at (elim b as (λ x. Option ℕ) [ true ↦ Some j | false ↦ None ]) i)) off in
           elim (cases_eq j i) [
-            | inl same ↦ (let P : ℕ → Type 0 = λ x. is_running runs x ≡ false in let r = bit_off (is_running runs i) (subst P same off) in omega (arith, e, ap (λ w. bit (eqb j i) * w) r))
+            | inl same ↦ (let P : ℕ → Type 0 = λ x. is_running runs x ≡ false in let r = bit_off (is_running runs i) (subst P same off) in
+                omega (arith, e, ap (λ w. bit (eqb j i) * w) r))
             | inr ne ↦ (let z = bit_off (eqb j i) (ne_eqb j i ne) in omega (arith, e, ap (λ w. w * bit (is_running runs i)) z))
           ])
     ] in
@@ -139,7 +142,8 @@ sum_on_packs c v (Some j ∷ onto) h =
     let parts = sum_to-add c (λ i. bit (eqb j i) * v i) (λ i. held onto i * v i) in
     let same = sum_to-same c (λ i. (bit (eqb j i) + held onto i) * v i) (λ i. bit (eqb j i) * v i + held onto i * v i) (λ k l. omega arith) in
     let here = bit_at (eqb j j) (eq-eqb j j refl) in
-    let one = sum_to-one c (λ i. bit (eqb j i) * v i) j (h j (omega (arith, here))) (λ k l ne. (let z = bit_off (eqb j k) (ne_eqb j k (λ s. ne (sym s))) in omega (arith, ap (λ b. b * v k) z))) in
+    let one = sum_to-one c (λ i. bit (eqb j i) * v i) j (h j (omega (arith, here))) (λ k l ne. (let z = bit_off (eqb j k) (ne_eqb j k (λ s. ne (sym s))) in
+    omega (arith, ap (λ b. b * v k) z))) in
     let at = ap (λ b. b * v j) here in
     omega (arith, ih, parts, same, one, at)
 

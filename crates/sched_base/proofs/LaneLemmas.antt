@@ -1,5 +1,6 @@
 -- What one leaf more on each lane leaves true.
-use Rattle.std.proofs.Common.{◌≡◌, ℕ, zero, suc, ◌+◌, ◌-◌, ◌<◌, ◌≤◌, List, [], ◌∷◌, ◌++◌, Some, length, take, drop, set, get_or, refl, sym, ap, ◌∙◌, subst, arith, add-one}
+use Rattle.std.proofs.Common.{◌≡◌, ℕ, zero, suc, ◌+◌, ◌-◌, ◌<◌, ◌≤◌, List, [], ◌∷◌, ◌++◌, Some, length, take, drop, set, get_or, refl, sym, ap, ◌∙◌}
+use Rattle.std.proofs.Common.{subst, arith, add-one}
 use Rattle.std.proofs.lemmas.List.{take_at}
 use Rattle.sched_base.specs.declared.rows.Row.{Row}
 use Rattle.sched_base.specs.Tables.{LaneHeld, HaveRoom}
@@ -10,7 +11,8 @@ with_leaves-none [] = refl
 with_leaves-none (lane ∷ lanes) = refl
 
 -- lanes from p on are as before
-pub get_or-with_leaves : (lanes : List LaneHeld) (rows : List Row) (p : ℕ) (lane : LaneHeld) → p < length lanes → get_or (with_leaves lanes (take p rows)) p lane ≡ get_or lanes p lane
+pub get_or-with_leaves : (lanes : List LaneHeld) (rows : List Row) (p : ℕ) (lane : LaneHeld) → p < length lanes → get_or (with_leaves lanes (take p rows)) p
+    lane ≡ get_or lanes p lane
 get_or-with_leaves [] rows p lane within = absurd (omega arith)
 get_or-with_leaves (l ∷ lanes) rows zero lane within = refl
 get_or-with_leaves (l ∷ lanes) [] (suc p) lane within = refl
@@ -21,7 +23,8 @@ with_leaves-next : (lanes : List LaneHeld) (rows : List Row) (p : ℕ) (lane : L
 with_leaves-next [] rows p lane r a b = absurd (omega arith)
 with_leaves-next (l ∷ lanes) [] p lane r a b = absurd (omega arith)
 with_leaves-next (l ∷ lanes) (s ∷ rows) zero lane r a b = ap (λ ls. with_leaf l s.leaf ∷ ls) (sym (with_leaves-none lanes))
-with_leaves-next (l ∷ lanes) (s ∷ rows) (suc p) lane r a b = ap (λ ls. with_leaf l s.leaf ∷ ls) (with_leaves-next lanes rows p lane r (omega arith) (omega arith))
+with_leaves-next (l ∷ lanes) (s ∷ rows) (suc p) lane r a b = ap (λ ls. with_leaf l s.leaf ∷ ls) (with_leaves-next lanes rows p lane r (omega arith)
+    (omega arith))
 
 -- a step of the loop over the lanes
 pub with_leaves-more : (lanes : List LaneHeld) (rows : List Row) (p : ℕ) (lane : LaneHeld) (r : Row) → p < length lanes → p < length rows
@@ -51,7 +54,8 @@ HaveRoom-push n (k ∷ lanes) lane h room zero l at = h zero l at
 HaveRoom-push n (k ∷ lanes) lane h room (suc p) l at = HaveRoom-push n lanes lane (HaveRoom-tail n k lanes h) room p l at
 
 -- what a loan of all lanes leaves once each has its row more
-pub written_back : (lanes seen new : List LaneHeld) (rows : List Row) (n : ℕ) → seen ≡ lanes → length seen ≡ n → length new ≡ length seen → new ≡ with_leaves seen rows
+pub written_back : (lanes seen new : List LaneHeld) (rows : List Row) (n : ℕ) → seen ≡ lanes → length seen ≡ n → length new ≡ length seen →
+    new ≡ with_leaves seen rows
     → take n (new ++ drop (length new) lanes) ≡ with_leaves lanes rows
 written_back lanes seen new rows n same many as_many is = take_at new (drop (length new) lanes) n (as_many ∙ many) ∙ is ∙ ap (λ ls. with_leaves ls rows) same
 

@@ -1,5 +1,6 @@
 -- Lists of numbers that pass a test.
-use Rattle.std.proofs.Common.{Bool, List, None, Some, [], add-zero, ap, ap₂, arith, eq-eqb, eqb, false, filter, find, get_or, inl, inr, le_refl, length, map, refl, subst, suc, sym, true, zero, ℕ, ◌*◌, ◌+◌, ◌<◌, ◌∙◌, ◌∷◌, ◌≡◌, ◌≤◌}
+use Rattle.std.proofs.Common.{Bool, List, None, Some, [], add-zero, ap, ap₂, arith, eq-eqb, eqb, false, filter, find, get_or, inl, inr, le_refl}
+use Rattle.std.proofs.Common.{length, map, refl, subst, suc, sym, true, zero, ℕ, ◌*◌, ◌+◌, ◌<◌, ◌∙◌, ◌∷◌, ◌≡◌, ◌≤◌}
 use Rattle.std.proofs.lemmas.Bool.{cases_Bool, cases_eq, cond-false, cond-true, ne_eqb}
 use Rattle.std.specs.List.{range_with_len}
 use Rattle.sched_base.specs.Counting.{bit, sum_to}
@@ -10,7 +11,8 @@ use Rattle.sched_base.proofs.SumLemmas.{sum_to-same, sum_to_front}
 pub find_passes : (p : ℕ → Bool) (xs : List ℕ) (x : ℕ) → find p xs ≡ Some x → p x ≡ true
 find_passes p [] x e = cc
 find_passes p (y ∷ ys) x e = elim (cases_Bool (p y)) [
-  | inl f ↦ (let s : Some y ≡ Some x = sym (cond-true (p y) (Some y) (find p ys) f) ∙ e in let same : y ≡ x = cc in let P : ℕ → Type 0 = λ z. p z ≡ true in subst P same f)
+  | inl f ↦ (let s : Some y ≡ Some x = sym (cond-true (p y) (Some y) (find p ys) f) ∙ e in let same : y ≡ x = cc in let P : ℕ → Type 0 = λ z. p z ≡ true in
+      subst P same f)
   | inr f ↦ find_passes p ys x (sym (cond-false (p y) (Some y) (find p ys) f) ∙ e)
 ]
 
@@ -107,12 +109,14 @@ length-passing p (suc n) a =
     ]
 
 -- what holds of the first item and of each item of the rest holds of each
-pub at_front : (Q : ℕ → Type 0) (x : ℕ) (xs : List ℕ) → Q x → ((i : ℕ) → i < length xs → Q (get_or xs i 0)) → (i : ℕ) → i < length (x ∷ xs) → Q (get_or (x ∷ xs) i 0)
+pub at_front : (Q : ℕ → Type 0) (x : ℕ) (xs : List ℕ) → Q x → ((i : ℕ) → i < length xs → Q (get_or xs i 0)) → (i : ℕ) → i < length (x ∷ xs) →
+    Q (get_or (x ∷ xs) i 0)
 at_front Q x xs q f zero l = q
 at_front Q x xs q f (suc i) l = f i (omega arith)
 
 -- the packs of level 0 are packs
-pub first_from : (p : ℕ → Bool) (n a i : ℕ) → i < length (filter p (range_with_len a n)) → (get_or (filter p (range_with_len a n)) i 0 < a + n) × (p (get_or (filter p (range_with_len a n)) i 0) ≡ true)
+pub first_from : (p : ℕ → Bool) (n a i : ℕ) → i < length (filter p (range_with_len a n)) → (get_or (filter p (range_with_len a n)) i 0 < a + n)
+    × (p (get_or (filter p (range_with_len a n)) i 0) ≡ true)
 first_from p zero a i l = absurd (omega arith)
 first_from p (suc n) a i l =
     elim (cases_Bool (p a)) [
@@ -140,7 +144,8 @@ passing_from p (suc n) a i l =
     ]
 
 -- and in order
-pub passing_increases : (p : ℕ → Bool) (n a k : ℕ) → suc k < length (filter p (range_with_len a n)) → get_or (filter p (range_with_len a n)) k 0 < get_or (filter p (range_with_len a n)) (suc k) 0
+pub passing_increases : (p : ℕ → Bool) (n a k : ℕ) → suc k < length (filter p (range_with_len a n)) → get_or (filter p (range_with_len a n)) k 0 < get_or
+    (filter p (range_with_len a n)) (suc k) 0
 passing_increases p zero a k l = absurd (omega arith)
 passing_increases p (suc n) a k l =
     let P : List ℕ → Type 0 = λ xs. suc k < length xs → get_or xs k 0 < get_or xs (suc k) 0 in
@@ -171,7 +176,8 @@ sum_list_passing g p zero a = refl
 sum_list_passing g p (suc n) a =
     let ih = sum_list_passing g p n (a + 1) in
     let front = sum_to_front n (λ k. bit (p (a + k)) * g (a + k)) in
-    let shift = sum_to-same n (λ k. bit (p (a + 1 + k)) * g (a + 1 + k)) (λ k. bit (p (a + suc k)) * g (a + suc k)) (λ k l. ap (λ x. bit (p x) * g x) (omega arith)) in
+    let shift = sum_to-same n (λ k. bit (p (a + 1 + k)) * g (a + 1 + k)) (λ k. bit (p (a + suc k)) * g (a + suc k)) (λ k l. ap (λ x. bit (p x) * g x)
+    (omega arith)) in
     let zero_at = ap (λ x. bit (p x) * g x) (add-zero a) in
     elim (cases_Bool (p a)) [
       | inl on ↦ (let e = ap (sum_list g) (passing_on p a n on) in

@@ -16,7 +16,11 @@ overlap_more s n a b l = omega arith
 
 -- a round in which g stays as it is
 pub in_round : (g : ℕ → Bool) (a b s n : ℕ) → s ≤ n → ((k : ℕ) → s ≤ k → k < n → g k ≡ g s) → bit (g s) * overlap s n a b + in_ticks g a b s ≡ in_ticks g a b n
-in_round g a b s zero l same = let e : s ≡ 0 = omega arith in let z : overlap s 0 a b ≡ 0 = omega arith in omega (arith, ap (in_ticks g a b) e, ap (λ o. bit (g s) * o) z)
+in_round g a b s zero l same = let e : s ≡ 0 = omega arith in let z : overlap s 0 a b ≡ 0 = omega arith in omega (
+  arith,
+  ap (in_ticks g a b) e,
+  ap (λ o. bit (g s) * o) z,
+)
 in_round g a b s (suc n) l same =
     elim (cases_lt s (suc n)) [
       | inl m ↦

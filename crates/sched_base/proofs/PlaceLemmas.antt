@@ -1,5 +1,6 @@
 -- Each pack that runs is placed, on one processor; and while the same packs run they keep their processors.
-use Rattle.std.proofs.Common.{Bool, List, None, Option, Some, [], ap, ap₂, arith, eq-eqb, eqb, false, find, get_or, inl, inr, le_refl, length, map, mul-le-mul_right, not, refl, suc, sym, true, zero-add, ℕ, ◌&&◌, ◌+◌, ◌<◌, ◌∙◌, ◌∷◌, ◌≡◌, ◌≤◌, ◌⊎◌}
+use Rattle.std.proofs.Common.{Bool, List, None, Option, Some, [], ap, ap₂, arith, eq-eqb, eqb, false, find, get_or, inl, inr, le_refl, length, map}
+use Rattle.std.proofs.Common.{mul-le-mul_right, not, refl, suc, sym, true, zero-add, ℕ, ◌&&◌, ◌+◌, ◌<◌, ◌∙◌, ◌∷◌, ◌≡◌, ◌≤◌, ◌⊎◌}
 use Rattle.std.proofs.Math.Bool.{and-true}
 use Rattle.std.proofs.lemmas.Bool.{and_left, and_parts, and_right, both_ways, cases_Bool, cases_lt, not-true}
 use Rattle.std.proofs.lemmas.List.{get_or_past, length-map}
@@ -11,7 +12,8 @@ use Rattle.sched_base.proofs.CountingLemmas.{bit_at, bit_le, bit_off}
 use Rattle.sched_base.proofs.SumLemmas.{sum_to-add, sum_to-same}
 use Rattle.sched_base.proofs.ListLemmas.{filter_none, find_none, find_passes, length-passing, times_at_most, times_from}
 use Rattle.sched_base.proofs.EarliestLemmas.{is_at_one, is_at_some}
-use Rattle.sched_base.proofs.HeldLemmas.{free, held, held-zero, held_filled, held_filled_at_most, held_kept, held_some, length-filled, length-returned, runs_within, sum_held}
+use Rattle.sched_base.proofs.HeldLemmas.{free, held, held-zero, held_filled, held_filled_at_most, held_kept, held_some, length-filled}
+use Rattle.sched_base.proofs.HeldLemmas.{length-returned, runs_within, sum_held}
 
 module _ (runs : List Bool) (last onto : List (Option ℕ)) where
   -- the pack that comes back to processor p
@@ -38,7 +40,8 @@ module _ (runs : List Bool) (last onto : List (Option ℕ)) where
       ]
 
   -- past the processor that it held last a pack comes back to none
-  pub returned_past : (i q : ℕ) → ((p : ℕ) → is_at (get_or last i None) p ≡ true → p < q) → (p : ℕ) → q ≤ p → (rest : List (Option ℕ)) → held rest i ≡ 0 → held (returned runs last onto p rest) i ≡ 0
+  pub returned_past : (i q : ℕ) → ((p : ℕ) → is_at (get_or last i None) p ≡ true → p < q) → (p : ℕ) → q ≤ p → (rest : List (Option ℕ)) → held rest i ≡ 0 →
+      held (returned runs last onto p rest) i ≡ 0
   returned_past i q h p l [] z = refl
   returned_past i q h p l (Some j ∷ rest) z = let ih = returned_past i q h (suc p) (omega arith) rest (omega arith) in omega (arith, ih)
   returned_past i q h p l (None ∷ rest) z =
@@ -57,7 +60,8 @@ module _ (runs : List Bool) (last onto : List (Option ℕ)) where
       elim (cases_Bool (is_at (back_to p) i)) [
         | inl at ↦
             (let is = back_is p i at in
-            let none = returned_past i (suc p) (λ q e. (let same = is_at_one (get_or last i None) q p e is.2 in omega (arith, same))) (suc p) (le_refl (suc p)) rest (omega arith) in
+            let none = returned_past i (suc p) (λ q e. (let same = is_at_one (get_or last i None) q p e is.2 in omega (arith, same))) (suc p)
+            (le_refl (suc p)) rest (omega arith) in
             omega (arith, none, bit_le (is_at (back_to p) i), bit_at (is_running runs i) is.0))
         | inr off ↦ omega (arith, ih, bit_off (is_at (back_to p) i) off)
       ]
@@ -117,7 +121,8 @@ module _ (runs : List Bool) (places : Placing) (once : (i : ℕ) → held places
   -- no processor goes away
   pub length-onto : length (onto_next runs places) ≡ length places.onto
   unfolding onto_next
-  length-onto = length-filled returned_now (waiting runs returned_now) ∙ length-returned runs places.last kept_now 0 kept_now ∙ length-map places.onto (kept runs)
+  length-onto = length-filled returned_now (waiting runs returned_now) ∙ length-returned runs places.last kept_now 0 kept_now ∙ length-map places.onto
+      (kept runs)
 
   -- where the waiting packs find room, each pack that runs is placed
   pub placed_where : length (waiting runs returned_now) ≤ free returned_now → (i : ℕ) → held (onto_next runs places) i ≡ bit (is_running runs i)
@@ -140,7 +145,8 @@ module _ (runs : List Bool) (places : Placing) (once : (i : ℕ) → held places
       let w = length-passing waits_now (length runs) 0 in
       let w' = sum_to-same (length runs) (λ k. bit (waits_now (0 + k))) (λ k. bit (waits_now k))
       (λ k l. ap (λ x. bit (waits_now x)) (zero-add k)) in
-      let all = sum_held (length runs) returned_now (λ j some. runs_within runs j (elim (cases_Bool (is_running runs j)) [ inl on ↦ on | inr off ↦ (let most = returned_at_most j in let z = bit_off (is_running runs j) off in absurd (omega (arith, most, z, some))) ])) in
+      let all = sum_held (length runs) returned_now (λ j some. runs_within runs j (elim (cases_Bool (is_running runs j))
+      [ inl on ↦ on | inr off ↦ (let most = returned_at_most j in let z = bit_off (is_running runs j) off in absurd (omega (arith, most, z, some))) ])) in
       let long = length-returned runs places.last kept_now 0 kept_now ∙ length-map places.onto (kept runs) in
       let split = sum_to-add (length runs) (λ k. held returned_now k) (λ k. bit (waits_now k)) in
       let whole = sum_to-same (length runs) (λ k. held returned_now k + bit (waits_now k)) (λ k. bit (is_running runs k)) (λ k l. held_or_waiting k) in
@@ -154,7 +160,8 @@ kept_all runs (None ∷ onto) h = ap (λ xs. None ∷ xs) (kept_all runs onto (�
 kept_all runs (Some j ∷ onto) h =
     let here = bit_at (eqb j j) (eq-eqb j j refl) in
     let on = h j (omega (arith, here)) in
-    ap₂ (λ (x : Option ℕ) (xs : List (Option ℕ)). x ∷ xs) (ap (λ (b : Bool). elim b as (λ y. Option ℕ) [ true ↦ Some j | false ↦ None ]) on) (kept_all runs onto (λ i l. h i (omega arith)))
+    ap₂ (λ (x : Option ℕ) (xs : List (Option ℕ)). x ∷ xs) (ap (λ (b : Bool). elim b as (λ y. Option ℕ) [ true ↦ Some j | false ↦ None ]) on)
+    (kept_all runs onto (λ i l. h i (omega arith)))
 
 -- where no processor is free, none comes back
 pub returned_full : (runs : List Bool) (last onto : List (Option ℕ)) (p : ℕ) (rest : List (Option ℕ)) → free rest ≡ 0 → returned runs last onto p rest ≡ rest
@@ -163,9 +170,11 @@ returned_full runs last onto p (None ∷ rest) z = absurd (omega arith)
 returned_full runs last onto p (Some j ∷ rest) z = ap (λ xs. Some j ∷ xs) (returned_full runs last onto (suc p) rest z)
 
 -- nor where none has cause to
-pub returned_none : (runs : List Bool) (last onto : List (Option ℕ)) → ((p i : ℕ) → comes_back runs last onto p i ≡ false) → (p : ℕ) (rest : List (Option ℕ)) → returned runs last onto p rest ≡ rest
+pub returned_none : (runs : List Bool) (last onto : List (Option ℕ)) → ((p i : ℕ) → comes_back runs last onto p i ≡ false) →
+    (p : ℕ) (rest : List (Option ℕ)) → returned runs last onto p rest ≡ rest
 returned_none runs last onto h p [] = refl
-returned_none runs last onto h p (None ∷ rest) = ap₂ (λ (x : Option ℕ) (xs : List (Option ℕ)). x ∷ xs) (find_none (comes_back runs last onto p) (range_with_len 0 (length runs)) (h p)) (returned_none runs last onto h (suc p) rest)
+returned_none runs last onto h p (None ∷ rest) = ap₂ (λ (x : Option ℕ) (xs : List (Option ℕ)). x ∷ xs) (find_none (comes_back runs last onto p)
+    (range_with_len 0 (length runs)) (h p)) (returned_none runs last onto h (suc p) rest)
 returned_none runs last onto h p (Some j ∷ rest) = ap (λ xs. Some j ∷ xs) (returned_none runs last onto h (suc p) rest)
 
 -- where no processor is free, none is filled
@@ -209,7 +218,8 @@ onto_still runs places once = go (free_filled (returned_now runs places once) (w
     after : returned runs (place runs places).last next 0 next ≡ next → filled_up runs next ≡ next → onto_next runs (place runs places) ≡ next
     after r f = ap (back_and_filled runs (place runs places).last) all_kept ∙ ap (filled_up runs) r ∙ f
 
-    go : (free next ≡ 0) ⊎ (length (waiting runs (returned_now runs places once)) ≤ free (returned_now runs places once)) → onto_next runs (place runs places) ≡ next
+    go : (free next ≡ 0) ⊎ (length (waiting runs (returned_now runs places once)) ≤ free (returned_now runs places once)) →
+        onto_next runs (place runs places) ≡ next
     go (inl z) = after (returned_full runs (place runs places).last next 0 next z) (filled_full next (waiting runs next) z)
     go (inr fits) =
         (let all : (i : ℕ) → held next i ≡ bit (is_running runs i) = placed_where runs places once fits in

@@ -13,7 +13,8 @@ period_divides (task ∷ tasks) n zero h l = h.0
 period_divides (task ∷ tasks) n (suc j) h l = period_divides tasks n j h.1 (omega arith)
 
 -- at its rate a task is given its work in each period
-pub rate_exact : (tasks : List declared.Task) (scale : ℕ) → IsScale tasks scale → (j : ℕ) → j < length tasks → rate_of scale (task_at tasks j) * (task_at tasks j).period ≡ (task_at tasks j).work * scale
+pub rate_exact : (tasks : List declared.Task) (scale : ℕ) → IsScale tasks scale → (j : ℕ) → j < length tasks →
+    rate_of scale (task_at tasks j) * (task_at tasks j).period ≡ (task_at tasks j).work * scale
 rate_exact tasks scale h j l =
     let divides = period_divides tasks scale j h.divided l in
     let whole = mul-div_assoc (task_at tasks j).period (task_at tasks j).work divides in

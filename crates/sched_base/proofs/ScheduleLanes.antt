@@ -1,5 +1,6 @@
 -- What a round adds to the lanes of a schedule.
-use Rattle.std.proofs.Common.{◌≡◌, ℕ, zero, suc, ◌+◌, ◌<◌, ◌==◌, Bool, List, [], ◌∷◌, ◌++◌, Some, map, length, replicate, refl, ap, sym, ◌∙◌, arith, subst, eq-eqb, inl, inr, cond}
+use Rattle.std.proofs.Common.{◌≡◌, ℕ, zero, suc, ◌+◌, ◌<◌, ◌==◌, Bool, List, [], ◌∷◌, ◌++◌, Some, map, length, replicate, refl, ap, sym, ◌∙◌, arith}
+use Rattle.std.proofs.Common.{subst, eq-eqb, inl, inr, cond}
 use Rattle.std.specs.Prelude.{slice_get}
 use Rattle.std.specs.List.{AllByRecursion, range_with_len}
 use Rattle.std.proofs.lemmas.Bool.{cases_Bool, cond-true, cond-false, ne_eqb}
@@ -63,10 +64,12 @@ lanes_from-round a (suc n) rows round [] long one = absurd (omega arith)
 lanes_from-round a (suc n) rows round (r ∷ some) long one =
     let e : a + 0 ≡ a = omega arith in
     let first : rows_on a round ≡ r ∷ [] = ap (λ p. rows_on p round) (sym e) ∙ one 0 r refl in
-    let lane : rows_on a (rows ++ round) ≡ rows_on a rows ++ r ∷ [] = filter-append (λ x. x.processor == a) rows round ∙ ap (λ xs. rows_on a rows ++ xs) first in
+    let lane : rows_on a (rows ++ round) ≡ rows_on a rows ++ r ∷ [] = filter-append (λ x. x.processor == a) rows round ∙ ap (λ xs. rows_on a rows ++ xs)
+    first in
     ap (λ xs. xs ∷ lanes_from (a + 1) n (rows ++ round)) lane
     ∙ ap (λ lanes. (rows_on a rows ++ r ∷ []) ∷ lanes)
-    (lanes_from-round (a + 1) n rows round some (omega arith) (λ k s at. ap (λ p. rows_on p round) (let next : a + 1 + k ≡ a + suc k = omega arith in next) ∙ one (suc k) s at))
+    (lanes_from-round (a + 1) n rows round some (omega arith) (λ k s at. ap (λ p. rows_on p round) (let next : a + 1 + k ≡ a + suc k = omega arith in next)
+    ∙ one (suc k) s at))
 
 pub lanes_of-none : (m : ℕ) → lanes_of m [] ≡ replicate m []
 lanes_of-none m = lanes_from-none 0 m
@@ -105,7 +108,8 @@ end_after-push before [] r = refl
 end_after-push before (s ∷ rows) r = end_after-push s.end rows r
 
 -- a round ends where its first row does
-pub end_of-with_round : (lanes : List (List Row)) (round : List Row) (end : ℕ) → length round ≡ length lanes → 0 < length lanes → ((r : Row) → slice_get round 0 ≡ Some r → r.end ≡ end)
+pub end_of-with_round : (lanes : List (List Row)) (round : List Row) (end : ℕ) → length round ≡ length lanes → 0 < length lanes →
+    ((r : Row) → slice_get round 0 ≡ Some r → r.end ≡ end)
     → end_of (with_round lanes round) ≡ end
 end_of-with_round [] round end same some is = absurd (omega arith)
 end_of-with_round (lane ∷ lanes) [] end same some is = absurd (omega arith)

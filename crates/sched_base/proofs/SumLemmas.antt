@@ -185,7 +185,8 @@ reindex m n p q to from r g =
             | inr no' ↦ (let z = bit_off (p i && eqb (to i) x) no' in omega (arith, ap (λ b. b * g x) z))
           ]) in
           let a = ap (λ b. b * g x) (bit_at (q x) on) in
-          let c = ap (λ b. b * g x) (bit_at (p (from x) && eqb (to (from x)) x) (and_from (p (from x)) (eqb (to (from x)) x) b.1 (eq-eqb (to (from x)) x b.2))) in
+          let c = ap (λ b. b * g x) (bit_at (p (from x) && eqb (to (from x)) x) (and_from (p (from x)) (eqb (to (from x)) x) b.1 (eq-eqb (to (from x)) x
+          b.2))) in
           omega (arith, one, a, c))
       | inr off ↦
           (let none = sum_to-zero m (λ i. bit (p i && eqb (to i) x) * g x) (λ i li.

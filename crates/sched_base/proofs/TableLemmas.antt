@@ -8,7 +8,8 @@ use Rattle.sched_base.specs.declared.rows.Leaf.TheVariants.{Empty}
 use Rattle.sched_base.specs.Tables.{lane_of, RowAt, rounds_in, end_after, end_of, IsRound, IsTable, with_round}
 
 -- a place of a list with one element more is one of before, or the new one
-pub slice_get-push : {X : Type 0} (xs : List X) (y x : X) (k : ℕ) → slice_get (xs ++ y ∷ []) k ≡ Some x → ((k < length xs) × (slice_get xs k ≡ Some x)) ⊎ ((k ≡ length xs) × (y ≡ x))
+pub slice_get-push : {X : Type 0} (xs : List X) (y x : X) (k : ℕ) → slice_get (xs ++ y ∷ []) k ≡ Some x → ((k < length xs) × (slice_get xs k ≡ Some x))
+    ⊎ ((k ≡ length xs) × (y ≡ x))
 slice_get-push [] y x zero h = let e : Some y ≡ Some x = h in inr (refl, cc)
 slice_get-push [] y x (suc k) h = cc
 slice_get-push (z ∷ xs) y x zero h = inl (omega arith, h)
@@ -28,7 +29,8 @@ length-with_round (lane ∷ lanes) [] = refl
 length-with_round (lane ∷ lanes) (r ∷ rows) = ap suc (length-with_round lanes rows)
 
 -- each lane is longer by one
-pub length-lane_of-with_round : (lanes : List (List Row)) (rows : List Row) (p : ℕ) → length rows ≡ length lanes → p < length lanes → length (lane_of (with_round lanes rows) p) ≡ length (lane_of lanes p) + 1
+pub length-lane_of-with_round : (lanes : List (List Row)) (rows : List Row) (p : ℕ) → length rows ≡ length lanes → p < length lanes →
+    length (lane_of (with_round lanes rows) p) ≡ length (lane_of lanes p) + 1
 length-lane_of-with_round [] rows p same within = absurd (omega arith)
 length-lane_of-with_round (lane ∷ lanes) [] p same within = absurd (omega arith)
 length-lane_of-with_round (lane ∷ lanes) (r ∷ rows) zero same within = length_push lane r
@@ -88,12 +90,14 @@ module _ (lanes : List (List Row)) (rows : List Row) (h : IsTable lanes) (whole 
   IsTable-with_round = record {
     whole = λ p within.
         let inside : p < length lanes = omega (arith, length-with_round lanes rows) in
-        length-lane_of-with_round lanes rows p whole inside ∙ ap (λ n. n + 1) (h.whole p inside) ∙ sym (length-lane_of-with_round lanes rows 0 whole (omega arith));
+        length-lane_of-with_round lanes rows p whole inside ∙ ap (λ n. n + 1) (h.whole p inside) ∙ sym (length-lane_of-with_round lanes rows 0 whole
+        (omega arith));
     own = λ p k r at. elim (RowAt-with_round lanes rows p k r at) [ inl a ↦ h.own p k r a.1 | inr b ↦ round.own p r b.2 ];
     forward = λ p k r at. elim (RowAt-with_round lanes rows p k r at) [ inl a ↦ h.forward p k r a.1 | inr b ↦ round.forward p r b.2 ];
     first = λ p r at. elim (RowAt-with_round lanes rows p 0 r at) [
       | inl a ↦ h.first p r a.1
-      | inr b ↦ (let none : lane_of lanes 0 ≡ [] = nil_from_length (lane_of lanes 0) (let w = h.whole p b.0 in omega (arith, w, b.1)) in round.starts p r b.2 ∙ ap (end_after 0) none)
+      | inr b ↦ (let none : lane_of lanes 0 ≡ [] = nil_from_length (lane_of lanes 0) (let w = h.whole p b.0 in omega (arith, w, b.1)) in
+          round.starts p r b.2 ∙ ap (end_after 0) none)
     ];
     next = λ p k r s at then. elim (RowAt-with_round lanes rows p k r at) [
       | inl a ↦ elim (RowAt-with_round lanes rows p (k + 1) s then) [

@@ -39,7 +39,8 @@ module _ (j s e : ℕ) where
         ap (λ lanes. task_ticks (all_rows (rows_on a (r ∷ rows) ∷ lanes)) j s e) (lanes_from-below (a + 1) n r rows (omega (arith, same)))
         ∙ ap (λ lane. task_ticks (lane ++ all_rows (lanes_from (a + 1) n rows)) j s e) (rows_on-own a r rows same)
     | inr rest ↦
-        (let rest_is = ticks_from (a + 1) n r rows (elim rest [ inl lt ↦ absurd (omega (arith, lt, low)) | inr gt ↦ omega (arith, gt) ]) (omega (arith, high)) in
+        (let rest_is = ticks_from (a + 1) n r rows (elim rest [ inl lt ↦ absurd (omega (arith, lt, low)) | inr gt ↦ omega (arith, gt) ])
+        (omega (arith, high)) in
         let other = rows_on-other a r rows (λ same. elim rest [ inl lt ↦ omega (arith, lt, same) | inr gt ↦ omega (arith, gt, same) ]) in
         let lane = ap (λ lane. task_ticks (lane ++ all_rows (lanes_from (a + 1) n (r ∷ rows))) j s e) other in
         let both = task_ticks-append (rows_on a rows) (all_rows (lanes_from (a + 1) n (r ∷ rows))) j s e in
@@ -48,16 +49,20 @@ module _ (j s e : ℕ) where
   ]
 
   -- the ticks that all lanes give are those that the rows give
-  pub lanes_ticks : (m : ℕ) (rows : List Row) → AllByRecursion (λ r. r.processor < m) rows → task_ticks (all_rows (lanes_of m rows)) j s e ≡ task_ticks rows j s e
+  pub lanes_ticks : (m : ℕ) (rows : List Row) → AllByRecursion (λ r. r.processor < m) rows → task_ticks (all_rows (lanes_of m rows)) j s e ≡ task_ticks rows
+      j s e
   lanes_ticks m [] all = ap (λ rows. task_ticks rows j s e) (all_rows-none 0 m)
   lanes_ticks m (r ∷ rows) all =
       let first = all.0 in
-      ticks_from 0 m r rows (omega arith) (omega (arith, first)) ∙ ap (λ n. bit (is_of_task j r.leaf) * overlap r.start r.end s e + n) (lanes_ticks m rows all.1)
+      ticks_from 0 m r rows (omega arith) (omega (arith, first)) ∙ ap (λ n. bit (is_of_task j r.leaf) * overlap r.start r.end s e + n)
+      (lanes_ticks m rows all.1)
 
 -- lanes that hold the rows of a valid schedule are one, one lane after the other
-module _ (s : SetContents) (scale horizon stop : ℕ) (rows : List Row) (valid : IsValid s scale horizon stop rows) (lanes : List (List Row)) (is : lanes ≡ lanes_of s.processors rows) (table : IsTable lanes) where
+module _ (s : SetContents) (scale horizon stop : ℕ) (rows : List Row) (valid : IsValid s scale horizon stop rows) (lanes : List (List Row))
+    (is : lanes ≡ lanes_of s.processors rows) (table : IsTable lanes) where
   in_lanes : (P : Row → Type 0) → AllByRecursion P rows → AllByRecursion P (all_rows lanes)
-  in_lanes P all = subst (λ (ls : List (List Row)). AllByRecursion P (all_rows ls)) (sym is) (all_rows-all P (lanes_of s.processors rows) (lanes_of-all P s.processors rows all))
+  in_lanes P all = subst (λ (ls : List (List Row)). AllByRecursion P (all_rows ls)) (sym is) (all_rows-all P (lanes_of s.processors rows)
+      (lanes_of-all P s.processors rows all))
 
   same_served : (j k : ℕ) → served scale s (all_rows lanes) j k ≡ served scale s rows j k
   same_served j k =

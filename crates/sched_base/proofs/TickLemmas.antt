@@ -1,5 +1,6 @@
 -- The ticks that whole rounds give to one task.
-use Rattle.std.proofs.Common.{length, ◌≡◌, ℕ, zero, suc, ◌+◌, ◌-◌, ◌*◌, ◌<◌, ◌≤◌, ◌^◌, Bool, true, false, List, [], ◌∷◌, Option, Some, None, take, get_or, refl, sym, ap, ◌∙◌, arith, add-one, ◌⊎◌, inl, inr}
+use Rattle.std.proofs.Common.{length, ◌≡◌, ℕ, zero, suc, ◌+◌, ◌-◌, ◌*◌, ◌<◌, ◌≤◌, ◌^◌, Bool, true, false, List, [], ◌∷◌, Option, Some, None, take}
+use Rattle.std.proofs.Common.{get_or, refl, sym, ap, ◌∙◌, arith, add-one, ◌⊎◌, inl, inr}
 use Rattle.std.specs.Prelude.{slice_get, slice_set, slice_index}
 use Rattle.std.proofs.lemmas.Option.{slice_get-get_or}
 use Rattle.std.proofs.lemmas.Bool.{eqb-true}
@@ -68,11 +69,13 @@ given_at-cases j span (Some r) within = elim (is_true_or (is_of_task j r.leaf)) 
 
 -- where no two rows of a round are of the task, the round gives it no more than one row's span
 round_ticks-le : (j k span : ℕ) (lanes : List (List Row)) → ((p : ℕ) (r : Row) → RowAt lanes p k r → r.end - r.start ≤ span)
-    → ((p q : ℕ) (r s : Row) → RowAt lanes p k r → RowAt lanes q k s → is_of_task j r.leaf ≡ true → is_of_task j s.leaf ≡ true → p ≡ q) → round_ticks j k lanes ≤ span
+    → ((p q : ℕ) (r s : Row) → RowAt lanes p k r → RowAt lanes q k s → is_of_task j r.leaf ≡ true → is_of_task j s.leaf ≡ true → p ≡ q) →
+    round_ticks j k lanes ≤ span
 round_ticks-le j k span [] within once = omega arith
 round_ticks-le j k span (lane ∷ lanes) within once = elim (given_at-cases j span (slice_get lane k) (λ r at. within 0 r at)) [
   | inl none ↦ (
-      let rest = round_ticks-le j k span lanes (λ p r at. within (suc p) r at) (λ p q r s at there is is'. let e : suc p ≡ suc q = once (suc p) (suc q) r s at there is is' in omega (arith, e)) in
+      let rest = round_ticks-le j k span lanes (λ p r at. within (suc p) r at) (λ p q r s at there is is'. let e : suc p ≡ suc q = once (suc p) (suc q) r s
+      at there is is' in omega (arith, e)) in
       omega (arith, none, rest)
       )
   | inr some ↦ (
@@ -133,24 +136,39 @@ ticks_in-none : (j n : ℕ) → ticks_in j (take n []) ≡ 0
 ticks_in-none j zero = refl
 ticks_in-none j (suc n) = refl
 
-ticks_in-same : (j : ℕ) (rows : List Row) (n k : ℕ) → ((i : ℕ) (r : Row) → slice_get rows i ≡ Some r → is_of_task j r.leaf ≡ true → (i < n → i < k) × (i < k → i < n)) → ticks_in j (take n rows) ≡ ticks_in j (take k rows)
+ticks_in-same : (j : ℕ) (rows : List Row) (n k : ℕ) → ((i : ℕ) (r : Row) → slice_get rows i ≡ Some r → is_of_task j r.leaf ≡ true → (i < n → i < k)
+    × (i < k → i < n)) → ticks_in j (take n rows) ≡ ticks_in j (take k rows)
 ticks_in-same j [] n k h = ticks_in-none j n ∙ sym (ticks_in-none j k)
 ticks_in-same j (r ∷ rows) zero zero h = refl
 ticks_in-same j (r ∷ rows) zero (suc k) h =
-    let rest = ticks_in-same j rows zero k (λ i s at is. (λ less. absurd (omega arith), λ less. let a = (h (suc i) s at is).1 (omega arith) in omega (arith, a))) in
-    let here = given_at-none j (Some r) (λ s at. elim (is_true_or (is_of_task j s.leaf)) [ inl is_task ↦ absurd (let a = (h 0 s at is_task).1 (omega arith) in omega (arith, a)) | inr other ↦ other ]) in
+    let rest = ticks_in-same j rows zero k (λ i s at is. (
+      λ less. absurd (omega arith),
+      λ less. let a = (h (suc i) s at is).1 (omega arith) in
+          omega (arith, a),
+    )) in
+    let here = given_at-none j (Some r) (λ s at. elim (is_true_or (is_of_task j s.leaf))
+    [ inl is_task ↦ absurd (let a = (h 0 s at is_task).1 (omega arith) in omega (arith, a)) | inr other ↦ other ]) in
     omega (arith, rest, here)
 ticks_in-same j (r ∷ rows) (suc n) zero h =
-    let rest = ticks_in-same j rows n zero (λ i s at is. (λ less. let a = (h (suc i) s at is).0 (omega arith) in omega (arith, a), λ less. absurd (omega arith))) in
-    let here = given_at-none j (Some r) (λ s at. elim (is_true_or (is_of_task j s.leaf)) [ inl is_task ↦ absurd (let a = (h 0 s at is_task).0 (omega arith) in omega (arith, a)) | inr other ↦ other ]) in
+    let rest = ticks_in-same j rows n zero (λ i s at is. (
+      λ less. let a = (h (suc i) s at is).0 (omega arith) in omega (arith, a),
+      λ less. absurd (omega arith),
+    )) in
+    let here = given_at-none j (Some r) (λ s at. elim (is_true_or (is_of_task j s.leaf))
+    [ inl is_task ↦ absurd (let a = (h 0 s at is_task).0 (omega arith) in omega (arith, a)) | inr other ↦ other ]) in
     omega (arith, rest, here)
 ticks_in-same j (r ∷ rows) (suc n) (suc k) h =
-    let rest = ticks_in-same j rows n k (λ i s at is. let a = h (suc i) s at is in (λ less. let b = a.0 (omega arith) in omega (arith, b), λ less. let b = a.1 (omega arith) in omega (arith, b))) in
+    let rest = ticks_in-same j rows n k (λ i s at is. let a = h (suc i) s at is in (
+      λ less. let b = a.0 (omega arith) in omega (arith, b),
+      λ less. let b =
+          a.1 (omega arith) in omega (arith, b),
+    )) in
     omega (arith, rest)
 
 -- where the counted rows of the task are those of the rounds before round k, so are their ticks
 pub ticks_of-before : (j k : ℕ) (lanes : List (List Row)) (counts : List ℕ) → length counts ≡ length lanes
-    → ((q i : ℕ) (r : Row) → RowAt lanes q i r → is_of_task j r.leaf ≡ true → (i < slice_index counts q → i < k) × (i < k → i < slice_index counts q)) → ticks_of j lanes counts ≡ ticks_before j k lanes
+    → ((q i : ℕ) (r : Row) → RowAt lanes q i r → is_of_task j r.leaf ≡ true → (i < slice_index counts q → i < k) × (i < k → i < slice_index counts q)) →
+    ticks_of j lanes counts ≡ ticks_before j k lanes
 ticks_of-before j k [] counts many h = refl
 ticks_of-before j k (lane ∷ lanes) [] many h = absurd (omega arith)
 ticks_of-before j k (lane ∷ lanes) (n ∷ counts) many h =

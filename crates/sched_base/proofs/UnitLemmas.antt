@@ -1,5 +1,6 @@
 -- Units, and the ticks that they hold.
-use Rattle.std.proofs.Common.{add-mul, ap, arith, div-add-mod', div-lt_iff_lt-mul, inl, inr, le-div_iff_mul-le, le_of_lt, mod-lt, mul-add, mul-le-mul_right, sub-add_cancel, suc, ℕ, ◌%◌, ◌*◌, ◌+◌, ◌-◌, ◌/◌, ◌<◌, ◌≡◌, ◌≤◌, ◌⊎◌}
+use Rattle.std.proofs.Common.{add-mul, ap, arith, div-add-mod', div-lt_iff_lt-mul, inl, inr, le-div_iff_mul-le, le_of_lt, mod-lt, mul-add}
+use Rattle.std.proofs.Common.{mul-le-mul_right, sub-add_cancel, suc, ℕ, ◌%◌, ◌*◌, ◌+◌, ◌-◌, ◌/◌, ◌<◌, ◌≡◌, ◌≤◌, ◌⊎◌}
 use Rattle.std.proofs.lemmas.Bool.{cases_lt}
 use native.Mathlib.Nat.{div-eq_of_lt-le}
 

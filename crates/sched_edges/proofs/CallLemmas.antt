@@ -1,5 +1,6 @@
 -- What a call on a source, a sink or a gate for tests leaves. What was held before is what the value shows.
-use Rattle.std.proofs.Common.{◌≡◌, ℕ, ◌+◌, ◌-◌, ◌<◌, ◌≤◌, min, Bool, List, [], ◌++◌, length, take, drop, length-drop, Ok, Err, le_refl, ap, ap₂, subst, sym, ◌∙◌, arith}
+use Rattle.std.proofs.Common.{◌≡◌, ℕ, ◌+◌, ◌-◌, ◌<◌, ◌≤◌, min, Bool, List, [], ◌++◌, length, take, drop, length-drop, Ok, Err, le_refl, ap, ap₂}
+use Rattle.std.proofs.Common.{subst, sym, ◌∙◌, arith}
 use Rattle.std.proofs.lemmas.List.{drop-drop, drop_all, length-take-le, take_rest, take-append-drop}
 use Rattle.sched_edges.specs.Causes.{Rose, HasCause}
 use Rattle.sched_edges.specs.Memory.{is_listed}
@@ -18,7 +19,8 @@ listed_is seen held call fails same is = sym (is ∙ ap (λ numbers. is_listed n
 
 -- ---- a source for tests gives the front of what was left
 
-pub front_within : (items held : List ℕ) (at n room : ℕ) → at ≤ length items → held ≡ items → n ≡ min (length (take (length held - at) (drop at held))) room → at + n ≤ length items
+pub front_within : (items held : List ℕ) (at n room : ℕ) → at ≤ length items → held ≡ items → n ≡ min (length (take (length held - at) (drop at held))) room
+    → at + n ≤ length items
 front_within items held at n room low same counted =
     let rest = ap length (take_rest held at) in
     let long = ap length same in
@@ -29,10 +31,12 @@ front_fits buffer n most room counted long =
     let low : n ≤ length buffer = omega (arith, counted, long) in
     (low, sym (length-take-le n buffer low))
 
-pub front_count : (left items held : List ℕ) (at n room : ℕ) → drop at items ≡ left → held ≡ items → n ≡ min (length (take (length held - at) (drop at held))) room → n ≡ min (length left) room
+pub front_count : (left items held : List ℕ) (at n room : ℕ) → drop at items ≡ left → held ≡ items →
+    n ≡ min (length (take (length held - at) (drop at held))) room → n ≡ min (length left) room
 front_count left items held at n room shown same counted = counted ∙ ap (λ (xs : List ℕ). min (length xs) room) (take_rest held at ∙ ap (drop at) same ∙ shown)
 
-pub front_given : (left items held buffer : List ℕ) (at n room : ℕ) → drop at items ≡ left → held ≡ items → n ≡ min (length (take (length held - at) (drop at held))) room
+pub front_given : (left items held buffer : List ℕ) (at n room : ℕ) → drop at items ≡ left → held ≡ items →
+    n ≡ min (length (take (length held - at) (drop at held))) room
     → take n buffer ≡ take n (take (length held - at) (drop at held)) → length buffer ≡ room
     → (left ≡ take n buffer ++ drop (at + n) items) × (n ≡ 0 → 0 < length buffer → drop (at + n) items ≡ [])
 front_given left items held buffer at n room shown same counted copied long =

@@ -6,7 +6,8 @@ use Rattle.std.proofs.lemmas.Option.{get_or_from_slice_get, slice_get_within, sl
 use Rattle.sched_edges.specs.Jobs.{JobAt, FaultsAre}
 
 -- what is read of a place that is there
-pub place_is : {X : Type 0} (items places : List X) (i : ℕ) (x place : X) → items ≡ places → slice_get places i ≡ Some x → place ≡ get_or items i place → place ≡ x
+pub place_is : {X : Type 0} (items places : List X) (i : ℕ) (x place : X) → items ≡ places → slice_get places i ≡ Some x → place ≡ get_or items i place →
+    place ≡ x
 place_is items places i x place same at is = is ∙ ap (λ xs. get_or xs i place) same ∙ get_or_from_slice_get places i x place at
 
 -- such a place is within the items

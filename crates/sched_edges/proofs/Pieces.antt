@@ -1,5 +1,6 @@
 -- What is taken of a piece, and what is given of known bytes.
-use Rattle.std.proofs.Common.{◌≡◌, ℕ, ◌+◌, ◌-◌, ◌<◌, ◌≤◌, List, [], ◌++◌, length, take, drop, Option, None, Some, Result, Ok, Err, refl, ap, subst, arith, length-drop, length-append}
+use Rattle.std.proofs.Common.{◌≡◌, ℕ, ◌+◌, ◌-◌, ◌<◌, ◌≤◌, List, [], ◌++◌, length, take, drop, Option, None, Some, Result, Ok, Err, refl, ap, subst}
+use Rattle.std.proofs.Common.{arith, length-drop, length-append}
 use Rattle.std.proofs.lemmas.List.{take_all}
 use Rattle.std.proofs.Math.Seq.{take-add}
 use Rattle.std.specs.Io.KnownBytes.{Appends, Consumes, IsAtEnd}
@@ -10,10 +11,12 @@ use Rattle.sched_edges.specs.declared.read.TakeFault.TheVariants as fault
 use Rattle.sched_edges.specs.Streams.{GaveAll, GaveCount, GaveAtMost, HoldsAtMost, HoldsMore}
 
 -- a sink that took the first bytes of a piece takes some more of it
-pub next_piece : (a b c : Option (List ℕ)) (piece : List ℕ) (done n : ℕ) → done ≤ length piece → Appends a b (take done piece) → n ≤ length (take (length piece - done) (drop done piece))
+pub next_piece : (a b c : Option (List ℕ)) (piece : List ℕ) (done n : ℕ) → done ≤ length piece → Appends a b (take done piece) →
+    n ≤ length (take (length piece - done) (drop done piece))
     → Appends b c (take n (take (length piece - done) (drop done piece))) → (done + n ≤ length piece) × Appends a c (take (done + n) piece)
 next_piece a b c piece done n within before count after =
-    let rest : take (length piece - done) (drop done piece) ≡ drop done piece = take_all (length piece - done) (drop done piece) (omega (arith, length-drop done piece)) in
+    let rest : take (length piece - done) (drop done piece) ≡ drop done piece = take_all (length piece - done) (drop done piece)
+    (omega (arith, length-drop done piece)) in
     let fits : n ≤ length (drop done piece) = rw rest at count in
     let after' : Appends b c (take n (drop done piece)) = rw rest at after in
     (omega (arith, length-drop done piece), rw (take-add done n piece) (Appends-trans a b c _ _ before after'))
@@ -38,17 +41,21 @@ holds_more (Some xs) (Some ys) limit more =
     omega (arith, length-append bytes ys)
 
 -- a source that gave these bytes, and then at most n
-pub gave_at_most : (a b c : Option (List ℕ)) (bytes : List ℕ) (n most : ℕ) → Consumes a b bytes → GaveAtMost b c n → length bytes + n ≤ most → GaveAtMost a c most
+pub gave_at_most : (a b c : Option (List ℕ)) (bytes : List ℕ) (n most : ℕ) → Consumes a b bytes → GaveAtMost b c n → length bytes + n ≤ most →
+    GaveAtMost a c most
 gave_at_most a b c bytes n most before after fits =
     let (more, count, gave) = after.gave in
     record { gave = (bytes ++ more, omega (arith, length-append bytes more), Consumes-trans a b c bytes more before gave) }
 
 -- a source that gave these bytes, and then n more
-pub gave_some_more : (a b c : Option (List ℕ)) (bytes more : List ℕ) (most : ℕ) → Consumes a b bytes → Consumes b c more → length bytes + length more ≤ most → GaveAtMost a c most
-gave_some_more a b c bytes more most before after fits = record { gave = (bytes ++ more, omega (arith, length-append bytes more), Consumes-trans a b c bytes more before after) }
+pub gave_some_more : (a b c : Option (List ℕ)) (bytes more : List ℕ) (most : ℕ) → Consumes a b bytes → Consumes b c more → length bytes + length more ≤ most
+    → GaveAtMost a c most
+gave_some_more a b c bytes more most before after fits =
+    record { gave = (bytes ++ more, omega (arith, length-append bytes more), Consumes-trans a b c bytes more before after) }
 
 -- a source that gave these bytes, and then none more, as it was at its end
-pub gave_all : (a b c : Option (List ℕ)) (bytes more now : List ℕ) (count limit : ℕ) → Consumes a b bytes → Consumes b c more → now ≡ bytes ++ more → length more ≡ count
+pub gave_all : (a b c : Option (List ℕ)) (bytes more now : List ℕ) (count limit : ℕ) → Consumes a b bytes → Consumes b c more → now ≡ bytes ++ more →
+    length more ≡ count
     → IsAtEnd c → count ≡ 0 → length bytes ≤ limit → GaveAll a c limit now
 gave_all a b c bytes more now count limit before after grows counted ended none within = record {
   gave = rw grows (Consumes-trans a b c bytes more before after);
@@ -57,7 +64,8 @@ gave_all a b c bytes more now count limit before after grows counted ended none 
 }
 
 -- a source that gave these bytes, and then more, one byte more than the limit
-pub gave_count : (a b c : Option (List ℕ)) (bytes more now : List ℕ) (limit count : ℕ) → Consumes a b bytes → Consumes b c more → now ≡ bytes ++ more → count ≡ length now
+pub gave_count : (a b c : Option (List ℕ)) (bytes more now : List ℕ) (limit count : ℕ) → Consumes a b bytes → Consumes b c more → now ≡ bytes ++ more →
+    count ≡ length now
     → limit < count → length bytes + length more ≤ limit + 1 → (count ≡ limit + 1) × GaveCount a c count
 gave_count a b c bytes more now limit count before after grows counted above within =
     let long = ap length grows in
@@ -96,7 +104,8 @@ pub memory_is_no_failure : {T : Type 0} {r : Result T TakeFault} {y : TakeFault}
 memory_is_no_failure is same failed = cc
 
 -- a source that gave a piece, whose room is the most
-pub gave_piece : (a b : Option (List ℕ)) (bytes : List ℕ) (count room most : ℕ) → Consumes a b bytes → count ≡ length bytes → count ≤ room → room ≡ most → GaveAtMost a b most
+pub gave_piece : (a b : Option (List ℕ)) (bytes : List ℕ) (count room most : ℕ) → Consumes a b bytes → count ≡ length bytes → count ≤ room → room ≡ most →
+    GaveAtMost a b most
 gave_piece a b bytes count room most gave long within same = record { gave = (bytes, omega (arith, long, within, same), gave) }
 
 -- a source that wasn't read

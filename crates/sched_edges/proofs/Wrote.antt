@@ -1,5 +1,6 @@
 -- What several writes, one after the other, took.
-use Rattle.std.proofs.Common.{◌≡◌, ℕ, ◌+◌, ◌-◌, ◌<◌, refl, List, [], ◌∷◌, ◌++◌, length, take, drop, get_or, Result, Ok, Err, sym, ◌∙◌, ap, arith, suc, zero, length-append, append_assoc, append-nil}
+use Rattle.std.proofs.Common.{◌≡◌, ℕ, ◌+◌, ◌-◌, ◌<◌, refl, List, [], ◌∷◌, ◌++◌, length, take, drop, get_or, Result, Ok, Err, sym, ◌∙◌, ap, arith, suc}
+use Rattle.std.proofs.Common.{zero, length-append, append_assoc, append-nil}
 use Rattle.std.specs.declared.option.Option.{Option}
 use Rattle.std.specs.Prelude.{IsErr}
 use Rattle.std.specs.List.{flat_map, range_with_len}
@@ -17,7 +18,8 @@ part_then a b c xs ys whole part =
     record { took = (length xs + n, omega (arith, length-append xs ys), rw (take-append-add xs ys n) (Appends-trans a b c xs (take n ys) whole more)) }
 
 -- a write of a whole text, and then another write
-pub wrote_then : {T U E F : Type 0} (a b c : Option (List ℕ)) (xs ys : List ℕ) (v : U) (r : Result T E) → Wrote {E = F} a b xs (Ok v) → Wrote b c ys r → Wrote a c (xs ++ ys) r
+pub wrote_then : {T U E F : Type 0} (a b c : Option (List ℕ)) (xs ys : List ℕ) (v : U) (r : Result T E) → Wrote {E = F} a b xs (Ok v) → Wrote b c ys r →
+    Wrote a c (xs ++ ys) r
 wrote_then a b c xs ys v (Ok w) first second = record { ok = Appends-trans a b c xs ys first.ok second.ok; err = tt }
 wrote_then a b c xs ys v (Err e) first second = record { ok = tt; err = part_then a b c xs ys first.ok second.err }
 
@@ -33,7 +35,8 @@ wrote_part a b xs (Ok v) failed part = absurd (let e = failed in cc)
 wrote_part a b xs (Err e) failed part = record { ok = tt; err = part }
 
 -- a write that failed is one of a longer text, and any failure may be answered
-pub wrote_cut : {T U E F : Type 0} (a b : Option (List ℕ)) (xs ys : List ℕ) (e : F) (r : Result T E) → Wrote {T = U} a b xs (Err e) → IsErr r → Wrote a b (xs ++ ys) r
+pub wrote_cut : {T U E F : Type 0} (a b : Option (List ℕ)) (xs ys : List ℕ) (e : F) (r : Result T E) → Wrote {T = U} a b xs (Err e) → IsErr r →
+    Wrote a b (xs ++ ys) r
 wrote_cut a b xs ys e r wrote failed = wrote_part a b (xs ++ ys) r failed (part_cut a b xs ys wrote.err)
 
 flat_map_parts : {A : Type 0} (f : A → List ℕ) (xs : List A) (i : ℕ) (x : A) → i < length xs → x ≡ get_or xs i x
@@ -41,7 +44,8 @@ flat_map_parts : {A : Type 0} (f : A → List ℕ) (xs : List A) (i : ℕ) (x : 
 flat_map_parts f [] i x within at = absurd (omega arith)
 flat_map_parts f (y ∷ xs) zero x within at = ap (λ z. f z ++ flat_map f xs) (sym at)
 flat_map_parts f (y ∷ xs) (suc i) x within at =
-    ap (λ text. f y ++ text) (flat_map_parts f xs i x (omega arith) at) ∙ sym (append_assoc (f y) (flat_map f (take i xs)) (f x ++ flat_map f (drop (suc i) xs)))
+    ap (λ text. f y ++ text) (flat_map_parts f xs i x (omega arith) at) ∙ sym (append_assoc (f y) (flat_map f (take i xs))
+    (f x ++ flat_map f (drop (suc i) xs)))
 
 flat_map_next : {A : Type 0} (f : A → List ℕ) (xs : List A) (i : ℕ) (x : A) → i < length xs → x ≡ get_or xs i x
     → flat_map f (take (i + 1) xs) ≡ flat_map f (take i xs) ++ f x
@@ -55,14 +59,17 @@ pub item_written : {A : Type 0} (f : A → List ℕ) (xs : List A) (i : ℕ) (x 
 item_written f xs i x a b c within at before now = rw (flat_map_next f xs i x within at) (Appends-trans a b c _ _ before now)
 
 -- the parts before an item, and then a write of the item's that failed
-pub wrote_item : {A T U E F : Type 0} (f : A → List ℕ) (xs : List A) (i : ℕ) (x : A) (a b c : Option (List ℕ)) (e : F) (r : Result T E) → i < length xs → x ≡ get_or xs i x
+pub wrote_item : {A T U E F : Type 0} (f : A → List ℕ) (xs : List A) (i : ℕ) (x : A) (a b c : Option (List ℕ)) (e : F) (r : Result T E) → i < length xs →
+    x ≡ get_or xs i x
     → Appends a b (flat_map f (take i xs)) → Wrote {T = U} b c (f x) (Err e) → IsErr r → Wrote a c (flat_map f xs) r
 wrote_item f xs i x a b c e r within at before wrote failed =
-    wrote_part a c (flat_map f xs) r failed (rw (flat_map_parts f xs i x within at) (part_then a b c _ _ before (part_cut b c (f x) (flat_map f (drop (suc i) xs)) wrote.err)))
+    wrote_part a c (flat_map f xs) r failed (rw (flat_map_parts f xs i x within at) (part_then a b c _ _ before
+    (part_cut b c (f x) (flat_map f (drop (suc i) xs)) wrote.err)))
 
 -- ---- a text of one part for each number from 0 on
 
-range_parts : (f : ℕ → List ℕ) (start n i : ℕ) → i < n → flat_map f (range_with_len start n) ≡ flat_map f (range_with_len start i) ++ (f (start + i) ++ flat_map f (range_with_len (start + i + 1) (n - i - 1)))
+range_parts : (f : ℕ → List ℕ) (start n i : ℕ) → i < n → flat_map f (range_with_len start n) ≡ flat_map f (range_with_len start i)
+    ++ (f (start + i) ++ flat_map f (range_with_len (start + i + 1) (n - i - 1)))
 range_parts f start zero i within = absurd (omega arith)
 range_parts f start (suc n) zero within =
     let at : start + 0 ≡ start = omega arith in
@@ -71,7 +78,8 @@ range_parts f start (suc n) zero within =
 range_parts f start (suc n) (suc i) within =
     let at : start + suc i ≡ start + 1 + i = omega arith in
     let count : suc n - suc i - 1 ≡ n - i - 1 = omega arith in
-    rw (at, count) (ap (λ text. f start ++ text) (range_parts f (start + 1) n i (omega arith)) ∙ sym (append_assoc (f start) (flat_map f (range_with_len (start + 1) i)) _))
+    rw (at, count) (ap (λ text. f start ++ text) (range_parts f (start + 1) n i (omega arith))
+    ∙ sym (append_assoc (f start) (flat_map f (range_with_len (start + 1) i)) _))
 
 range_next : (f : ℕ → List ℕ) (i : ℕ) → flat_map f (range_with_len 0 (i + 1)) ≡ flat_map f (range_with_len 0 i) ++ f i
 range_next f i =
@@ -81,7 +89,8 @@ range_next f i =
     (rw (none, at) at parts) ∙ ap (λ text. flat_map f (range_with_len 0 i) ++ text) (append-nil (f i))
 
 -- the parts before number i, and then that of i
-pub number_written : (f : ℕ → List ℕ) (i : ℕ) (a b c : Option (List ℕ)) → Appends a b (flat_map f (range_with_len 0 i)) → Appends b c (f i) → Appends a c (flat_map f (range_with_len 0 (i + 1)))
+pub number_written : (f : ℕ → List ℕ) (i : ℕ) (a b c : Option (List ℕ)) → Appends a b (flat_map f (range_with_len 0 i)) → Appends b c (f i) →
+    Appends a c (flat_map f (range_with_len 0 (i + 1)))
 number_written f i a b c before now = rw (range_next f i) (Appends-trans a b c _ _ before now)
 
 -- the parts before number i, and then a write of its part that failed

@@ -33,16 +33,20 @@ module _ (tasks : List declared.Task) (t : Tree) (h : IsTree t) (leaves : HaveBo
       (calm_quiet (set_boundary tasks) t h (idle_late tasks) holds.real n early calm)
       (calm_unspent (set_boundary tasks) t h (idle_late tasks) holds.real n early calm)
 
-pub set_runs_still : (s : SetContents) → IsLawful s → (t : Tree) → IsTreeOf s t → (n : ℕ) → n + 1 < 2 ^ 33 * t.scale → is_event (set_boundary s.tasks) t (n + 1) ≡ false →
+pub set_runs_still : (s : SetContents) → IsLawful s → (t : Tree) → IsTreeOf s t → (n : ℕ) → n + 1 < 2 ^ 33 * t.scale → is_event (set_boundary s.tasks) t
+    (n + 1) ≡ false →
     (x : ℕ) → x < length t.nodes → runs (set_boundary s.tasks) t x (n + 1) ≡ runs (set_boundary s.tasks) t x n
 set_runs_still s lawful t is n early calm x l =
     let next : suc n ≡ n + 1 = omega arith in
-    let P : ℕ → Type 0 = λ m. m < 2 ^ 33 * t.scale → is_event (set_boundary s.tasks) t m ≡ false → runs (set_boundary s.tasks) t x m ≡ runs (set_boundary s.tasks) t x n in
+    let P : ℕ → Type 0 = λ m. m < 2 ^ 33 * t.scale → is_event (set_boundary s.tasks) t m ≡ false → runs (set_boundary s.tasks) t x m ≡ runs
+    (set_boundary s.tasks) t x n in
     subst P next (λ e c. node_still s.tasks t is.tree (set_leaves s.tasks lawful.each t is.tasks) is.tasks n e c x l) early calm
 
-pub set_places_still : (s : SetContents) → IsLawful s → (t : Tree) → IsTreeOf s t → (n : ℕ) → n + 1 < 2 ^ 33 * t.scale → is_event (set_boundary s.tasks) t (n + 1) ≡ false →
+pub set_places_still : (s : SetContents) → IsLawful s → (t : Tree) → IsTreeOf s t → (n : ℕ) → n + 1 < 2 ^ 33 * t.scale → is_event (set_boundary s.tasks) t
+    (n + 1) ≡ false →
     onto_at (set_boundary s.tasks) t (n + 1) ≡ onto_at (set_boundary s.tasks) t n
 set_places_still s lawful t is n early calm =
     let next : suc n ≡ n + 1 = omega arith in
-    let P : ℕ → Type 0 = λ m. m < 2 ^ 33 * t.scale → is_event (set_boundary s.tasks) t m ≡ false → onto_at (set_boundary s.tasks) t m ≡ onto_at (set_boundary s.tasks) t n in
+    let P : ℕ → Type 0 = λ m. m < 2 ^ 33 * t.scale → is_event (set_boundary s.tasks) t m ≡ false → onto_at (set_boundary s.tasks) t m ≡ onto_at
+    (set_boundary s.tasks) t n in
     subst P next (λ e c. processors_still s.tasks t is.tree (set_leaves s.tasks lawful.each t is.tasks) is.tasks n e c) early calm

@@ -1,5 +1,6 @@
 -- One server that serves its members by earliest deadline first gives each of them its due.
-use Rattle.std.proofs.Common.{ap, ap₂, arith, inl, inr, le_refl, leb, ltb, mul-le-mul_left, mul-le-mul_right, refl, subst, suc, sym, true, zero, ℕ, ◌&&◌, ◌*◌, ◌+◌, ◌-◌, ◌/◌, ◌<◌, ◌≡◌, ◌≤◌}
+use Rattle.std.proofs.Common.{ap, ap₂, arith, inl, inr, le_refl, leb, ltb, mul-le-mul_left, mul-le-mul_right, refl, subst, suc, sym, true, zero, ℕ}
+use Rattle.std.proofs.Common.{◌&&◌, ◌*◌, ◌+◌, ◌-◌, ◌/◌, ◌<◌, ◌≡◌, ◌≤◌}
 use Rattle.std.proofs.lemmas.Bool.{and_cases, and_parts, both_ways, cases_Bool, cases_lt, leb-false, leb-true, ltb-false, ltb-true}
 use Rattle.sched_base.specs.Counting.{bit, sum_to, ticks}
 use Rattle.sched_base.specs.Valid.{served}

@@ -106,7 +106,8 @@ five_compiled = refl
 
 -- a runs 0 to 5 and 15 to 25
 pub five_first : map (λ tick. get_or tick 1 false) (ticks_below (set_boundary five_set.tasks) five 25)
-    ≡ true ∷ true ∷ true ∷ true ∷ true ∷ false ∷ false ∷ false ∷ false ∷ false ∷ false ∷ false ∷ false ∷ false ∷ false ∷ true ∷ true ∷ true ∷ true ∷ true ∷ true ∷ true ∷ true ∷ true ∷ true ∷ []
+    ≡ true ∷ true ∷ true ∷ true ∷ true ∷ false ∷ false ∷ false ∷ false ∷ false ∷ false ∷ false ∷ false ∷ false ∷ false ∷ true ∷ true ∷ true ∷ true ∷ true
+    ∷ true ∷ true ∷ true ∷ true ∷ true ∷ []
 unfolding runs runs_now window_end is_boundary
 five_first = refl
 

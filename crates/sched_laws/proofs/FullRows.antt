@@ -21,11 +21,13 @@ use Rattle.sched_base.specs.declared.sets.Task as declared
 
 -- where no processor is free and each pack has a leaf, no row is empty
 pub none_empty : (tasks : List declared.Task) (t : Tree) (s e p : ℕ) (onto : List (Option ℕ)) → free onto ≡ 0 →
-    ((i : ℕ) → 0 < held onto i → leaf_in (set_boundary tasks) t s (get_or (packs_at t 0) i 0) ≡ Empty → ⊥) → AllByRecursion (λ r. r.leaf ≡ Empty → ⊥) (rows_from tasks t s e p onto)
+    ((i : ℕ) → 0 < held onto i → leaf_in (set_boundary tasks) t s (get_or (packs_at t 0) i 0) ≡ Empty → ⊥) → AllByRecursion (λ r. r.leaf ≡ Empty → ⊥)
+    (rows_from tasks t s e p onto)
 none_empty tasks t s e p [] z f = tt
 none_empty tasks t s e p (None ∷ onto) z f = absurd (omega arith)
 none_empty tasks t s e p (Some i ∷ onto) z f = (
-  (λ x. f i (let o = bit_at (eqb i i) (eq-eqb i i refl) in omega (arith, o)) (shown_empty tasks t.scale s (leaf_in (set_boundary tasks) t s (get_or (packs_at t 0) i 0)) x)),
+  (λ x. f i (let o = bit_at (eqb i i) (eq-eqb i i refl) in omega (arith, o)) (shown_empty tasks t.scale s (leaf_in (set_boundary tasks) t s
+      (get_or (packs_at t 0) i 0)) x)),
   none_empty tasks t s e (suc p) onto z (λ j some. f j (omega arith)),
 )
 
@@ -50,4 +52,5 @@ module _ (tasks : List declared.Task) (t : Tree) (h : IsTree t) (leaves : HaveBo
 -- no row of the schedule is
 pub schedule_full : (s : SetContents) → IsLawful s → (t : Tree) → IsTreeOf s t → (stop : ℕ) → AllByRecursion (λ r. r.leaf ≡ Empty → ⊥) (schedule s.tasks t stop)
 schedule_full s lawful t is stop = from_rounds s.tasks t stop (λ rows. AllByRecursion (λ r. r.leaf ≡ Empty → ⊥) rows) tt
-    (λ n e. over_rounds s.tasks t _ stop 0 (λ begin end low up top. round_full s.tasks t is.tree (set_leaves s.tasks lawful.each t is.tasks) is.tasks begin end) n 1 0 e (le_refl 0) (omega arith))
+    (λ n e. over_rounds s.tasks t _ stop 0 (λ begin end low up top. round_full s.tasks t is.tree (set_leaves s.tasks lawful.each t is.tasks) is.tasks begin
+    end) n 1 0 e (le_refl 0) (omega arith))

@@ -1,5 +1,6 @@
 -- How many levels a tree can have.
-use Rattle.std.proofs.Common.{Bool, None, Option, Some, ap, arith, eq-eqb, eqb, inl, inr, is_some, le_refl, length, mul-le-mul_right, pow-suc, refl, suc, sym, true, zero, ℕ, ◌&&◌, ◌*◌, ◌+◌, ◌-◌, ◌<◌, ◌^◌, ◌∙◌, ◌≡◌, ◌≢◌, ◌≤◌, ◌⊎◌}
+use Rattle.std.proofs.Common.{Bool, None, Option, Some, ap, arith, eq-eqb, eqb, inl, inr, is_some, le_refl, length, mul-le-mul_right, pow-suc, refl}
+use Rattle.std.proofs.Common.{suc, sym, true, zero, ℕ, ◌&&◌, ◌*◌, ◌+◌, ◌-◌, ◌<◌, ◌^◌, ◌∙◌, ◌≡◌, ◌≢◌, ◌≤◌, ◌⊎◌}
 use Rattle.std.proofs.lemmas.Bool.{and_from, and_left, and_parts, and_right, both_ways, cases_Bool, cases_eq, cases_lt, eqb-true}
 use Rattle.sched_base.specs.Counting.{bit, sum_to}
 use Rattle.sched_base.proofs.CountingLemmas.{bit_at, bit_le, bit_off}
@@ -29,7 +30,8 @@ module _ (t : Tree) (h : IsTree t) where
   members_count l =
       sum_to-same (length t.nodes) (λ p. bit (has_dual_at t l p)) (λ p. bit (has_dual_at t l p) * 1) (λ p b. omega arith)
       ∙ duals_are_next t h l (λ x. 1)
-      ∙ sum_to-same (length t.nodes) (λ p. bit (at_level t (suc l) p) * sum_to (length (members t p)) (λ k. 1)) (λ p. bit (at_level t (suc l) p) * length (members t p))
+      ∙ sum_to-same (length t.nodes) (λ p. bit (at_level t (suc l) p) * sum_to (length (members t p)) (λ k. 1)) (λ p. bit (at_level t (suc l) p) * length
+      (members t p))
       (λ p b. ap (λ c. bit (at_level t (suc l) p) * c) (sum_to-ones (length (members t p))))
 
   -- whether pack p of level l has one member
@@ -38,7 +40,8 @@ module _ (t : Tree) (h : IsTree t) where
 
   -- the one member of a pack of a higher level is a dual
   pub single_dual : (l p : ℕ) → p < length t.nodes → single (suc l) p ≡ true →
-      IsPack t p × (level t p ≡ suc l) × IsDual t (member t p 0) × (home t (member t p 0) ≡ p) × IsPack t (primal t (member t p 0)) × (level t (primal t (member t p 0)) ≡ l) × (rate t p + rate t (primal t (member t p 0)) ≡ t.scale)
+      IsPack t p × (level t p ≡ suc l) × IsDual t (member t p 0) × (home t (member t p 0) ≡ p) × IsPack t (primal t (member t p 0))
+      × (level t (primal t (member t p 0)) ≡ l) × (rate t p + rate t (primal t (member t p 0)) ≡ t.scale)
   single_dual l p b e =
       let both = and_parts (at_level t (suc l) p) (eqb (length (members t p)) 1) e in
       let i = pack_at t (suc l) p b both.0 in
@@ -72,7 +75,8 @@ module _ (t : Tree) (h : IsTree t) where
         | inr ne ↦
             (let over = h.pairs j k is_j is_k ne (at_j ∙ sym at_k) in
             let apart : primal t (member t j 0) ≢ primal t (member t k 0) = (λ e.
-            let both : Some (member t j 0) ≡ Some (member t k 0) = sym (h.duals_are (member t j 0) dual_j).1 ∙ ap (dual t) e ∙ (h.duals_are (member t k 0) dual_k).1 in
+            let both : Some (member t j 0) ≡ Some (member t k 0) = sym (h.duals_are (member t j 0) dual_j).1 ∙ ap (dual t) e
+            ∙ (h.duals_are (member t k 0) dual_k).1 in
             let same : member t j 0 ≡ member t k 0 = cc in
             ne (sym home_j ∙ ap (home t) same ∙ home_k)) in
             let under = h.pairs (primal t (member t j 0)) (primal t (member t k 0)) up_j up_k apart (low_j ∙ sym low_k) in
@@ -82,7 +86,8 @@ module _ (t : Tree) (h : IsTree t) where
   -- so a level has at least twice as many members as packs, but one
   pub members_pair : (l : ℕ) → 2 * packs_of t (suc l) ≤ duals_of t l + 1
   members_pair l =
-      let each = sum_to-le (length t.nodes) (λ p. bit (at_level t (suc l) p) * 2) (λ p. bit (at_level t (suc l) p) * length (members t p) + bit (single (suc l) p)) (λ p b.
+      let each = sum_to-le (length t.nodes) (λ p. bit (at_level t (suc l) p) * 2) (λ p. bit (at_level t (suc l) p) * length (members t p) + bit
+      (single (suc l) p)) (λ p b.
       elim (cases_Bool (at_level t (suc l) p)) [
         | inr off ↦ (let z = bit_off (at_level t (suc l) p) off in let e = ap (λ w. w * 2) z in omega (arith, e))
         | inl on ↦
@@ -90,7 +95,8 @@ module _ (t : Tree) (h : IsTree t) where
             let some = h.filled p (pack_at t (suc l) p b on).0 in
             let e = ap (λ w. w * length (members t p)) z in
             elim (cases_eq (length (members t p)) 1) [
-              | inl one ↦ (let s = bit_at (single (suc l) p) (and_from (at_level t (suc l) p) (eqb (length (members t p)) 1) on (eq-eqb (length (members t p)) 1 one)) in omega (arith, z, e, s, one))
+              | inl one ↦ (let s = bit_at (single (suc l) p) (and_from (at_level t (suc l) p) (eqb (length (members t p)) 1) on
+                  (eq-eqb (length (members t p)) 1 one)) in omega (arith, z, e, s, one))
               | inr more ↦ omega (arith, z, e, some, more)
             ])
       ]) in
@@ -139,7 +145,8 @@ module _ (t : Tree) (h : IsTree t) where
   primal_multiple l b =
       let count = each_level (λ leaf u. true) t h (λ x i. record { first = refl; later = λ u. (suc u, le_refl (suc u), omega arith, refl) }) l 0 b in
       let r = running (λ leaf u. true) t l 0 in
-      let split = sum_to-same (length t.nodes) (λ p. bit (at_level t l p) * rate t p + bit (has_dual_at t l p) * t.scale) (λ p. bit (has_dual_at t l p) * rate t p + bit (at_level t l p) * t.scale) (λ p b. root_or_dual l p b) in
+      let split = sum_to-same (length t.nodes) (λ p. bit (at_level t l p) * rate t p + bit (has_dual_at t l p) * t.scale)
+      (λ p. bit (has_dual_at t l p) * rate t p + bit (at_level t l p) * t.scale) (λ p b. root_or_dual l p b) in
       let a = sum_to-add (length t.nodes) (λ p. bit (at_level t l p) * rate t p) (λ p. bit (has_dual_at t l p) * t.scale) in
       let c = sum_to-add (length t.nodes) (λ p. bit (has_dual_at t l p) * rate t p) (λ p. bit (at_level t l p) * t.scale) in
       let da = sum_to-mul (length t.nodes) (λ p. bit (has_dual_at t l p)) t.scale in
@@ -147,7 +154,8 @@ module _ (t : Tree) (h : IsTree t) where
       let e : primal_rate l + packs_of t l * t.scale ≡ (r + duals_of t l) * t.scale = omega (arith, count, split, a, c, da, dc) in
       multiple (primal_rate l) (packs_of t l) (r + duals_of t l) t.scale e
     where
-      root_or_dual : (l p : ℕ) → p < length t.nodes → bit (at_level t l p) * rate t p + bit (has_dual_at t l p) * t.scale ≡ bit (has_dual_at t l p) * rate t p + bit (at_level t l p) * t.scale
+      root_or_dual : (l p : ℕ) → p < length t.nodes → bit (at_level t l p) * rate t p + bit (has_dual_at t l p) * t.scale ≡ bit (has_dual_at t l p) * rate t
+          p + bit (at_level t l p) * t.scale
       root_or_dual l p b =
           elim (cases_Bool (at_level t l p)) [
             | inr off ↦
@@ -157,7 +165,8 @@ module _ (t : Tree) (h : IsTree t) where
             | inl on ↦ go on (dual t p) refl
           ]
         where
-          go : at_level t l p ≡ true → (o : Option ℕ) → dual t p ≡ o → bit (at_level t l p) * rate t p + bit (has_dual_at t l p) * t.scale ≡ bit (has_dual_at t l p) * rate t p + bit (at_level t l p) * t.scale
+          go : at_level t l p ≡ true → (o : Option ℕ) → dual t p ≡ o → bit (at_level t l p) * rate t p + bit (has_dual_at t l p) * t.scale ≡ bit
+              (has_dual_at t l p) * rate t p + bit (at_level t l p) * t.scale
           go on None e =
               (let root = h.roots_are p (pack_at t l p b on).0 e in
               let y = bit_off (has_dual_at t l p) (and_right (at_level t l p) (is_some (dual t p)) (ap is_some e)) in
@@ -177,7 +186,8 @@ module _ (t : Tree) (h : IsTree t) where
         | inl on ↦ (let z = bit_at (has_dual_at t l p) on in let r = some_rate p (dual_there l p lp on).0 in omega (arith, z, ap (λ w. w * rate t p) z, r))
         | inr off ↦ (let z = bit_off (has_dual_at t l p) off in omega (arith, z))
       ]) in
-      let high = sum_to-le (length t.nodes) (λ p. bit (has_dual_at t l p) * rate t p + bit (has_dual_at t l p)) (λ p. bit (has_dual_at t l p) * t.scale) (λ p lp.
+      let high = sum_to-le (length t.nodes) (λ p. bit (has_dual_at t l p) * rate t p + bit (has_dual_at t l p)) (λ p. bit (has_dual_at t l p) * t.scale)
+      (λ p lp.
       elim (cases_Bool (has_dual_at t l p)) [
         | inl on ↦ (let z = bit_at (has_dual_at t l p) on in
             let d = dual_there l p lp on in
@@ -188,7 +198,8 @@ module _ (t : Tree) (h : IsTree t) where
       let split = sum_to-add (length t.nodes) (λ p. bit (has_dual_at t l p) * rate t p) (λ p. bit (has_dual_at t l p)) in
       let scaled = sum_to-mul (length t.nodes) (λ p. bit (has_dual_at t l p)) t.scale in
       -- the sum is c times the scale, above 0 and below the number times the scale
-      let above : 0 < c = elim (cases_eq c 0) [ inl z ↦ absurd (let e = ap (λ w. w * t.scale) z in omega (arith, whole, low, some, e)) | inr nz ↦ omega arith ] in
+      let above : 0 < c = elim (cases_eq c 0)
+      [ inl z ↦ absurd (let e = ap (λ w. w * t.scale) z in omega (arith, whole, low, some, e)) | inr nz ↦ omega arith ] in
       let under : c < duals_of t l = elim (cases_lt c (duals_of t l)) [
         | inl m ↦ m
         | inr m ↦ absurd (let e = mul-le-mul_right t.scale m in omega (arith, whole, high, split, scaled, some, e))

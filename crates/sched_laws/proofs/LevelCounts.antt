@@ -1,5 +1,6 @@
 -- How many packs of a level run at each tick.
-use Rattle.std.proofs.Common.{Bool, ap, arith, eq-eqb, eqb, inl, inr, le_antisymm, le_of_eq, le_of_mul-le-mul_right, length, not, suc, sym, zero, zero-add, ℕ, ◌*◌, ◌+◌, ◌-◌, ◌<◌, ◌∙◌, ◌≡◌}
+use Rattle.std.proofs.Common.{Bool, ap, arith, eq-eqb, eqb, inl, inr, le_antisymm, le_of_eq, le_of_mul-le-mul_right, length, not, suc, sym, zero}
+use Rattle.std.proofs.Common.{zero-add, ℕ, ◌*◌, ◌+◌, ◌-◌, ◌<◌, ◌∙◌, ◌≡◌}
 use Rattle.std.proofs.lemmas.Bool.{and_from, and_left, and_right, both_ways, cases_Bool, ne_eqb}
 use Rattle.sched_base.specs.declared.rows.Leaf.{Leaf}
 use Rattle.sched_base.specs.Counting.{bit, sum_to}
@@ -27,7 +28,8 @@ module _ (of_leaf : Leaf → ℕ → Bool) (t : Tree) (h : IsTree t) (leaves : H
             let most = sum_to-alone (length (members t p)) (λ k. runs of_leaf t (member t p k) n) (λ j k lj lk. law.alone j k n lj lk) in
             omega (arith, least, most, bit_at (runs of_leaf t p n) on, bit_at (runs of_leaf t (member t p k) n) run))
         | inr off ↦
-            (let none = sum_to-zero (length (members t p)) (λ k. bit (runs of_leaf t (member t p k) n)) (λ k l. elim (cases_Bool (runs of_leaf t (member t p k) n)) [
+            (let none = sum_to-zero (length (members t p)) (λ k. bit (runs of_leaf t (member t p k) n))
+            (λ k l. elim (cases_Bool (runs of_leaf t (member t p k) n)) [
               | inl run ↦ absurd (both_ways (runs of_leaf t p n) off (law.within k n l run))
               | inr stay ↦ bit_off (runs of_leaf t (member t p k) n) stay
             ]) in
@@ -35,10 +37,12 @@ module _ (of_leaf : Leaf → ℕ → Bool) (t : Tree) (h : IsTree t) (leaves : H
       ]
 
   -- the duals of a level that run are the packs of the next that run
-  pub running_next : (l n : ℕ) → sum_to (length t.nodes) (λ p. bit (has_dual_at t l p) * bit (runs of_leaf t (number_or (dual t p)) n)) ≡ running of_leaf t (suc l) n
+  pub running_next : (l n : ℕ) → sum_to (length t.nodes) (λ p. bit (has_dual_at t l p) * bit (runs of_leaf t (number_or (dual t p)) n)) ≡ running of_leaf t
+      (suc l) n
   running_next l n =
       duals_are_next t h l (λ x. bit (runs of_leaf t x n))
-      ∙ sum_to-same (length t.nodes) (λ p. bit (at_level t (suc l) p) * sum_to (length (members t p)) (λ k. bit (runs of_leaf t (member t p k) n))) (λ p. bit (at_level t (suc l) p) * bit (runs of_leaf t p n))
+      ∙ sum_to-same (length t.nodes) (λ p. bit (at_level t (suc l) p) * sum_to (length (members t p)) (λ k. bit (runs of_leaf t (member t p k) n)))
+      (λ p. bit (at_level t (suc l) p) * bit (runs of_leaf t p n))
       (λ p b. elim (cases_Bool (at_level t (suc l) p)) [
         | inl on ↦ ap (λ r. bit (at_level t (suc l) p) * r) (one_member p n (pack_at t (suc l) p b on).0)
         | inr off ↦ (let z = bit_off (at_level t (suc l) p) off in
@@ -58,7 +62,8 @@ module _ (of_leaf : Leaf → ℕ → Bool) (t : Tree) (h : IsTree t) (leaves : H
       let w = sum_to (length t.nodes) (λ p. bit (at_level t l p)) in
       let ones = sum_to-same (length t.nodes) _ _ (λ p b. pair_runs l p n b) in
       let rates = sum_to-same (length t.nodes) _ _ (λ p b. pair_rates t h l p b) in
-      let ones_add = sum_to-add (length t.nodes) (λ p. bit (at_level t l p) * bit (runs of_leaf t p n)) (λ p. bit (has_dual_at t l p) * bit (runs of_leaf t (number_or (dual t p)) n)) in
+      let ones_add = sum_to-add (length t.nodes) (λ p. bit (at_level t l p) * bit (runs of_leaf t p n)) (λ p. bit (has_dual_at t l p) * bit
+      (runs of_leaf t (number_or (dual t p)) n)) in
       let rates_add = sum_to-add (length t.nodes) (λ p. bit (at_level t l p) * rate t p) (λ p. bit (has_dual_at t l p) * rate t (number_or (dual t p))) in
       let units = sum_to-mul (length t.nodes) (λ p. bit (at_level t l p)) 1 in
       let scaled = sum_to-mul (length t.nodes) (λ p. bit (at_level t l p)) t.scale in
@@ -75,7 +80,8 @@ module _ (of_leaf : Leaf → ℕ → Bool) (t : Tree) (h : IsTree t) (leaves : H
         | inl on ↦ (let i = pack_at t l p b on in let top = h.leveled p i.0 in let at = i.1 in absurd (omega (arith, top, at, e)))
         | inr miss ↦ bit_off (at_level t l p) miss
       ]) in
-      let a = sum_to-zero (length t.nodes) (λ p. bit (at_level t l p) * bit (runs of_leaf t p n)) (λ p b. let z = off p b in omega (arith, ap (λ w. w * bit (runs of_leaf t p n)) z)) in
+      let a = sum_to-zero (length t.nodes) (λ p. bit (at_level t l p) * bit (runs of_leaf t p n)) (λ p b. let z = off p b in
+      omega (arith, ap (λ w. w * bit (runs of_leaf t p n)) z)) in
       let c = sum_to-zero (length t.nodes) (λ p. bit (at_level t l p) * rate t p) (λ p b. let z = off p b in omega (arith, ap (λ w. w * rate t p) z)) in
       omega (arith, c, ap (λ w. w * t.scale) a)
   level_count (suc above) l n e = level_step l n (level_count above (suc l) n (omega (arith, e)))
@@ -86,21 +92,25 @@ module _ (of_leaf : Leaf → ℕ → Bool) (t : Tree) (h : IsTree t) (leaves : H
   first_level x b = go (kind_of (kind_at t x))
     where
       go : KindOf (kind_at t x) → in_level t 0 x ≡ is_leaf (kind_at t x)
-      go (inl a_leaf) = and_from (not (is_pack (kind_at t x))) (eqb (level t (home t x)) 0) (ap not (not_pack_leaf (kind_at t x) a_leaf)) (eq-eqb (level t (home t x)) 0 (h.leaves_are x (b, a_leaf)).0) ∙ sym a_leaf
-      go (inr (inl a_dual)) = and_right (not (is_pack (kind_at t x))) (eqb (level t (home t x)) 0) (ne_eqb (level t (home t x)) 0 (λ z. let up = (h.duals_are x (b, a_dual)).2 in omega (arith, up, z))) ∙ sym (dual_no_leaf (kind_at t x) a_dual)
+      go (inl a_leaf) = and_from (not (is_pack (kind_at t x))) (eqb (level t (home t x)) 0) (ap not (not_pack_leaf (kind_at t x) a_leaf))
+          (eq-eqb (level t (home t x)) 0 (h.leaves_are x (b, a_leaf)).0) ∙ sym a_leaf
+      go (inr (inl a_dual)) = and_right (not (is_pack (kind_at t x))) (eqb (level t (home t x)) 0) (ne_eqb (level t (home t x)) 0 (λ z. let up =
+          (h.duals_are x (b, a_dual)).2 in omega (arith, up, z))) ∙ sym (dual_no_leaf (kind_at t x) a_dual)
       go (inr (inr a_pack)) = and_left (not (is_pack (kind_at t x))) (eqb (level t (home t x)) 0) (ap not a_pack) ∙ sym (pack_no_leaf (kind_at t x) a_pack)
 
   -- so the rate of level 0 is that of the processors
   pub first_rate : level_rate t 0 ≡ t.processors * t.scale
   first_rate =
-      sum_to-same (length t.nodes) (λ p. bit (at_level t 0 p) * rate t p) (λ p. bit (at_level t 0 p) * sum_to (length (members t p)) (λ k. rate t (member t p k)))
+      sum_to-same (length t.nodes) (λ p. bit (at_level t 0 p) * rate t p) (λ p. bit (at_level t 0 p) * sum_to (length (members t p))
+      (λ k. rate t (member t p k)))
       (λ p b. elim (cases_Bool (at_level t 0 p)) [
         | inl on ↦ ap (λ r. bit (at_level t 0 p) * r) (sym (h.summed p (pack_at t 0 p b on).0))
         | inr off ↦ (let z = bit_off (at_level t 0 p) off in
             omega (arith, ap (λ w. w * sum_to (length (members t p)) (λ k. rate t (member t p k))) z, ap (λ w. w * rate t p) z))
       ])
       ∙ level_reindexed t h 0 (rate t)
-      ∙ sum_to-same (length t.nodes) (λ x. bit (in_level t 0 x) * rate t x) (λ x. bit (is_leaf (kind_at t x)) * rate t x) (λ x b. ap (λ w. bit w * rate t x) (first_level x b))
+      ∙ sum_to-same (length t.nodes) (λ x. bit (in_level t 0 x) * rate t x) (λ x. bit (is_leaf (kind_at t x)) * rate t x) (λ x b. ap (λ w. bit w * rate t x)
+      (first_level x b))
       ∙ h.total
 
   -- for each level

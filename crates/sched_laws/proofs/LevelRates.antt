@@ -20,7 +20,8 @@ use Rattle.sched_laws.proofs.Edf.{due_served, served_exactly, some_runs, supplie
 use Rattle.sched_laws.proofs.Packs.{server_serves}
 
 -- a dual has the boundaries of its primal
-pub dual_bounds : (of_leaf : Leaf → ℕ → Bool) (t : Tree) (h : IsTree t) (p d : ℕ) → IsPack t p → dual t p ≡ Some d → (u : ℕ) → is_boundary of_leaf t d u ≡ is_boundary of_leaf t p u
+pub dual_bounds : (of_leaf : Leaf → ℕ → Bool) (t : Tree) (h : IsTree t) (p d : ℕ) → IsPack t p → dual t p ≡ Some d → (u : ℕ) → is_boundary of_leaf t d
+    u ≡ is_boundary of_leaf t p u
 dual_bounds of_leaf t h p d i e u =
     let x = h.has_dual p d i e in
     bound_dual of_leaf t h d x.0 u ∙ ap (λ q. is_boundary of_leaf t q u) x.1
@@ -66,7 +67,8 @@ module _ (of_leaf : Leaf → ℕ → Bool) (t : Tree) (h : IsTree t) (leaves : H
   supplied zero p i at = absurd (let l = h.leveled p i in omega (arith, l, at))
   supplied (suc above) p i at = go (supplied above) (dual t p) refl
     where
-      go : ((q : ℕ) → IsPack t q → level t q + above ≡ t.levels → IsSupplied (server of_leaf t q)) → (o : Option ℕ) → dual t p ≡ o → IsSupplied (server of_leaf t p)
+      go : ((q : ℕ) → IsPack t q → level t q + above ≡ t.levels → IsSupplied (server of_leaf t q)) → (o : Option ℕ) → dual t p ≡ o →
+          IsSupplied (server of_leaf t p)
       go ih None e = supplied_root p i e
       go ih (Some d) e =
           (let x = h.has_dual p d i e in
@@ -76,7 +78,8 @@ module _ (of_leaf : Leaf → ℕ → Bool) (t : Tree) (h : IsTree t) (leaves : H
           let same = ap (level t) x.1 in
           let over : IsSupplied (server of_leaf t (home t d)) = ih (home t d) at_home.0 (omega (arith, up, same, at)) in
           let law = server_serves of_leaf t h leaves (home t d) at_home.0 in
-          let P : ℕ → Type 0 = λ y. (u : ℕ) → ticks (runs of_leaf t y) (window_begin (is_boundary of_leaf t y) u * t.scale) ≡ rate t y * window_begin (is_boundary of_leaf t y) u in
+          let P : ℕ → Type 0 = λ y. (u : ℕ) → ticks (runs of_leaf t y) (window_begin (is_boundary of_leaf t y) u * t.scale) ≡ rate t y * window_begin
+          (is_boundary of_leaf t y) u in
           supplied_by_dual p d i e (subst P at_home.2 (λ u. served_exactly (server of_leaf t (home t d)) law over (place t d) u at_home.1)))
 
   -- each pack runs its rate
@@ -86,11 +89,13 @@ module _ (of_leaf : Leaf → ℕ → Bool) (t : Tree) (h : IsTree t) (leaves : H
   -- each pack runs exactly its rate in each of its windows
   pub pack_served : (p u : ℕ) → IsPack t p →
       ticks (runs of_leaf t p) (window_end (is_boundary of_leaf t p) u * t.scale)
-      ≡ ticks (runs of_leaf t p) (window_begin (is_boundary of_leaf t p) u * t.scale) + rate t p * (window_end (is_boundary of_leaf t p) u - window_begin (is_boundary of_leaf t p) u)
+      ≡ ticks (runs of_leaf t p) (window_begin (is_boundary of_leaf t p) u * t.scale) + rate t p * (window_end (is_boundary of_leaf t p) u - window_begin
+      (is_boundary of_leaf t p) u)
   pack_served p u i =
       let w = windows_of (is_boundary of_leaf t p) (pack_has of_leaf t h leaves (level t p) p i refl) in
       let s = supplied_all p i in
-      let first = s (window_begin (is_boundary of_leaf t p) u) (begins_again (window_begin (is_boundary of_leaf t p)) (window_end (is_boundary of_leaf t p)) w u) in
+      let first = s (window_begin (is_boundary of_leaf t p) u) (begins_again (window_begin (is_boundary of_leaf t p)) (window_end (is_boundary of_leaf t p))
+      w u) in
       let last = s (window_end (is_boundary of_leaf t p) u) (next_at (window_begin (is_boundary of_leaf t p)) (window_end (is_boundary of_leaf t p)) w u) in
       let b = w.begun u in
       let o = w.open_still u in
@@ -102,12 +107,15 @@ module _ (of_leaf : Leaf → ℕ → Bool) (t : Tree) (h : IsTree t) (leaves : H
   -- each leaf and each dual runs exactly its due in each of its windows
   pub member_served : (x u : ℕ) → IsMember t x →
       ticks (runs of_leaf t x) (window_end (is_boundary of_leaf t x) u * t.scale)
-      ≡ ticks (runs of_leaf t x) (window_begin (is_boundary of_leaf t x) u * t.scale) + rate t x * (window_end (is_boundary of_leaf t x) u - window_begin (is_boundary of_leaf t x) u)
+      ≡ ticks (runs of_leaf t x) (window_begin (is_boundary of_leaf t x) u * t.scale) + rate t x * (window_end (is_boundary of_leaf t x) u - window_begin
+      (is_boundary of_leaf t x) u)
   member_served x u i =
       let at_home = h.homes_are x i in
       let P : ℕ → Type 0 = λ y. ticks (runs of_leaf t y) (window_end (is_boundary of_leaf t y) u * t.scale)
-      ≡ ticks (runs of_leaf t y) (window_begin (is_boundary of_leaf t y) u * t.scale) + rate t y * (window_end (is_boundary of_leaf t y) u - window_begin (is_boundary of_leaf t y) u) in
-      subst P at_home.2 (due_served (server of_leaf t (home t x)) (server_serves of_leaf t h leaves (home t x) at_home.0) (supplied_all (home t x) at_home.0) (place t x) u at_home.1)
+      ≡ ticks (runs of_leaf t y) (window_begin (is_boundary of_leaf t y) u * t.scale) + rate t y * (window_end (is_boundary of_leaf t y) u - window_begin
+      (is_boundary of_leaf t y) u) in
+      subst P at_home.2 (due_served (server of_leaf t (home t x)) (server_serves of_leaf t h leaves (home t x) at_home.0) (supplied_all (home t x)
+      at_home.0) (place t x) u at_home.1)
 
   -- a pack that runs runs a member
   pub member_runs : (p n : ℕ) → IsPack t p → runs of_leaf t p n ≡ true → (k : ℕ) × (k < length (members t p)) × (runs of_leaf t (member t p k) n ≡ true)
@@ -117,8 +125,10 @@ module _ (of_leaf : Leaf → ℕ → Bool) (t : Tree) (h : IsTree t) (leaves : H
   pub member_total : (x u : ℕ) → IsMember t x → window_begin (is_boundary of_leaf t x) u ≡ u → ticks (runs of_leaf t x) (u * t.scale) ≡ rate t x * u
   member_total x u i at =
       let at_home = h.homes_are x i in
-      let P : ℕ → Type 0 = λ y. ticks (runs of_leaf t y) (window_begin (is_boundary of_leaf t y) u * t.scale) ≡ rate t y * window_begin (is_boundary of_leaf t y) u in
-      let all = subst P at_home.2 (served_exactly (server of_leaf t (home t x)) (server_serves of_leaf t h leaves (home t x) at_home.0) (supplied_all (home t x) at_home.0) (place t x) u at_home.1) in
+      let P : ℕ → Type 0 = λ y. ticks (runs of_leaf t y) (window_begin (is_boundary of_leaf t y) u * t.scale) ≡ rate t y * window_begin
+      (is_boundary of_leaf t y) u in
+      let all = subst P at_home.2 (served_exactly (server of_leaf t (home t x)) (server_serves of_leaf t h leaves (home t x) at_home.0)
+      (supplied_all (home t x) at_home.0) (place t x) u at_home.1) in
       let Q : ℕ → Type 0 = λ w. ticks (runs of_leaf t x) (w * t.scale) ≡ rate t x * w in
       subst Q at all
 
@@ -128,14 +138,16 @@ module _ (of_leaf : Leaf → ℕ → Bool) (t : Tree) (h : IsTree t) (leaves : H
   pub supplied_by_windows : (p : ℕ) → IsPack t p → RunsRate of_leaf t p → IsSupplied (server of_leaf t p)
   supplied_by_windows p i each =
       supplied_from_windows (server of_leaf t p) (server_serves of_leaf t h leaves p i)
-      (λ u. (let e = each u in let r = ap (λ r. r * (window_end (is_boundary of_leaf t p) u - window_begin (is_boundary of_leaf t p) u)) (h.summed p i) in omega (arith, e, r)))
+      (λ u. (let e = each u in let r = ap (λ r. r * (window_end (is_boundary of_leaf t p) u - window_begin (is_boundary of_leaf t p) u)) (h.summed p i) in
+      omega (arith, e, r)))
 
   -- then each member runs its due in each window
   pub one_pack_served : (p k : ℕ) → IsPack t p → RunsRate of_leaf t p → k < length (members t p) → RunsRate of_leaf t (member t p k)
   one_pack_served p k i each l u = due_served (server of_leaf t p) (server_serves of_leaf t h leaves p i) (supplied_by_windows p i each) k u l
 
   -- and where the pack runs a member runs
-  pub one_pack_runs : (p n : ℕ) → IsPack t p → RunsRate of_leaf t p → runs of_leaf t p n ≡ true → (k : ℕ) × (k < length (members t p)) × (runs of_leaf t (member t p k) n ≡ true)
+  pub one_pack_runs : (p n : ℕ) → IsPack t p → RunsRate of_leaf t p → runs of_leaf t p n ≡ true → (k : ℕ) × (k < length (members t p))
+      × (runs of_leaf t (member t p k) n ≡ true)
   one_pack_runs p n i each on = some_runs (server of_leaf t p) (server_serves of_leaf t h leaves p i) (supplied_by_windows p i each) n on
 
   -- a dual that runs its rate lets its primal run its own
@@ -147,8 +159,10 @@ module _ (of_leaf : Leaf → ℕ → Bool) (t : Tree) (h : IsTree t) (leaves : H
       let s = each u in
       let P : ℕ → ℕ → Type 0 = λ lo hi. ticks (runs of_leaf t d) (hi * t.scale) ≡ ticks (runs of_leaf t d) (lo * t.scale) + rate t d * (hi - lo) in
       let s' : P (window_begin (is_boundary of_leaf t p) u) (window_end (is_boundary of_leaf t p) u) = subst₂ P b f s in
-      let first = ticks_not (runs of_leaf t p) (runs of_leaf t d) (λ n. run_rests of_leaf t h leaves p d n i e) (window_begin (is_boundary of_leaf t p) u * t.scale) in
-      let last = ticks_not (runs of_leaf t p) (runs of_leaf t d) (λ n. run_rests of_leaf t h leaves p d n i e) (window_end (is_boundary of_leaf t p) u * t.scale) in
+      let first = ticks_not (runs of_leaf t p) (runs of_leaf t d) (λ n. run_rests of_leaf t h leaves p d n i e) (window_begin (is_boundary of_leaf t p)
+      u * t.scale) in
+      let last = ticks_not (runs of_leaf t p) (runs of_leaf t d) (λ n. run_rests of_leaf t h leaves p d n i e) (window_end (is_boundary of_leaf t p)
+      u * t.scale) in
       let w = windows_of (is_boundary of_leaf t p) (pack_has of_leaf t h leaves (level t p) p i refl) in
       let begun = w.begun u in
       let open_now = w.open_still u in

@@ -1,5 +1,6 @@
 -- Where every pack of level 0 is a root, no task migrates.
-use Rattle.std.proofs.Common.{Bool, List, None, Option, Some, [], ap, arith, eq-eqb, eqb, false, get_or, inl, inr, length, mul-le-mul_right, refl, suc, sym, true, zero, ℕ, ◌*◌, ◌+◌, ◌<◌, ◌∙◌, ◌∷◌, ◌≡◌, ◌≤◌}
+use Rattle.std.proofs.Common.{Bool, List, None, Option, Some, [], ap, arith, eq-eqb, eqb, false, get_or, inl, inr, length, mul-le-mul_right, refl}
+use Rattle.std.proofs.Common.{suc, sym, true, zero, ℕ, ◌*◌, ◌+◌, ◌<◌, ◌∙◌, ◌∷◌, ◌≡◌, ◌≤◌}
 use Rattle.std.proofs.lemmas.Bool.{both_ways, cases_lt, ne_eqb}
 use Rattle.sched_base.specs.declared.rows.Leaf.{Leaf}
 use Rattle.sched_base.specs.declared.rows.Leaf.TheVariants.{Task}
@@ -43,7 +44,8 @@ places_with_some f (o ∷ onto) zero l e = omega (arith, bit_at (f o) e)
 places_with_some f (o ∷ onto) (suc p) l e = let ih = places_with_some f onto p (omega arith) e in omega (arith, ih)
 
 -- and where there is at most one, two places that pass are one
-pub places_with_once : (f : Option ℕ → Bool) (onto : List (Option ℕ)) (p q : ℕ) → places_with f onto ≤ 1 → p < length onto → q < length onto → f (get_or onto p None) ≡ true → f (get_or onto q None) ≡ true → p ≡ q
+pub places_with_once : (f : Option ℕ → Bool) (onto : List (Option ℕ)) (p q : ℕ) → places_with f onto ≤ 1 → p < length onto → q < length onto →
+    f (get_or onto p None) ≡ true → f (get_or onto q None) ≡ true → p ≡ q
 places_with_once f [] p q z l m e g = absurd (omega arith)
 places_with_once f (o ∷ onto) zero zero z l m e g = refl
 places_with_once f (o ∷ onto) zero (suc q) z l m e g = let s = places_with_some f onto q (omega arith) g in absurd (omega (arith, s, bit_at (f o) e))
@@ -77,11 +79,13 @@ module _ (of_leaf : Leaf → ℕ → Bool) (t : Tree) (h : IsTree t) (leaves : H
       let most : sum_to (length t.nodes) (λ p. bit (at_level t 0 p) * bit (eqb p n)) ≤ 1 =
       elim (cases_lt n (length t.nodes)) [
         | inl l ↦
-            (let one = sum_to-one (length t.nodes) (λ p. bit (at_level t 0 p) * bit (eqb p n)) n l (λ p lp ne. (let z = bit_off (eqb p n) (ne_eqb p n ne) in omega (arith, ap (λ w. bit (at_level t 0 p) * w) z))) in
+            (let one = sum_to-one (length t.nodes) (λ p. bit (at_level t 0 p) * bit (eqb p n)) n l (λ p lp ne. (let z = bit_off (eqb p n) (ne_eqb p n ne) in
+            omega (arith, ap (λ w. bit (at_level t 0 p) * w) z))) in
             let here = ap (λ w. bit (at_level t 0 n) * w) (bit_at (eqb n n) (eq-eqb n n refl)) in
             omega (arith, one, here, bit_le (at_level t 0 n)))
         | inr l ↦
-            (let none = sum_to-zero (length t.nodes) (λ p. bit (at_level t 0 p) * bit (eqb p n)) (λ p lp. (let z = bit_off (eqb p n) (ne_eqb p n (λ s. omega (arith, s))) in omega (arith, ap (λ w. bit (at_level t 0 p) * w) z))) in
+            (let none = sum_to-zero (length t.nodes) (λ p. bit (at_level t 0 p) * bit (eqb p n))
+            (λ p lp. (let z = bit_off (eqb p n) (ne_eqb p n (λ s. omega (arith, s))) in omega (arith, ap (λ w. bit (at_level t 0 p) * w) z))) in
             omega (arith, none))
       ] in
       omega (arith, e, by_pack, less, nodes, most)
@@ -109,7 +113,8 @@ module _ (of_leaf : Leaf → ℕ → Bool) (t : Tree) (h : IsTree t) (leaves : H
     onto_const (suc n) = onto_step n ∙ onto_const n
 
 -- each task stays on one processor, where every pack of level 0 is a root
-module _ (tasks : List declared.Task) (t : Tree) (h : IsTree t) (leaves : HaveBoundaries (set_boundary tasks) t) (holds : HoldsTasks tasks t) (roots : (p : ℕ) → IsPack t p → level t p ≡ 0 → dual t p ≡ None) where
+module _ (tasks : List declared.Task) (t : Tree) (h : IsTree t) (leaves : HaveBoundaries (set_boundary tasks) t) (holds : HoldsTasks tasks t)
+    (roots : (p : ℕ) → IsPack t p → level t p ≡ 0 → dual t p ≡ None) where
   -- the boundaries of the leaves
   abbrev pub bounds : Leaf → ℕ → Bool
   bounds = set_boundary tasks
@@ -117,17 +122,20 @@ module _ (tasks : List declared.Task) (t : Tree) (h : IsTree t) (leaves : HaveBo
   -- a row of task j is on a processor whose pack is the task's
   abbrev pub IsAtHome : Row → Type 0
   IsAtHome r = (j : ℕ) → is_of_task j r.leaf ≡ true →
-      (x : ℕ) × IsLeaf t x × (leaf t x ≡ Task (task_id j)) × (r.processor < length (onto_at bounds t 0)) × (is_node t (home t x) (get_or (onto_at bounds t 0) r.processor None) ≡ true)
+      (x : ℕ) × IsLeaf t x × (leaf t x ≡ Task (task_id j)) × (r.processor < length (onto_at bounds t 0))
+      × (is_node t (home t x) (get_or (onto_at bounds t 0) r.processor None) ≡ true)
 
   -- each row is at home
   pub row_at_home : (s e q : ℕ) → q < length (onto_at bounds t s) → IsAtHome (row_of tasks t s e q (get_or (onto_at bounds t s) q None))
-  row_at_home s e q l j task = go (get_or (onto_at bounds t s) q None) refl (shown_task tasks t.scale s j (leaf_on bounds t s (get_or (onto_at bounds t s) q None)) task).0
+  row_at_home s e q l j task = go (get_or (onto_at bounds t s) q None) refl (shown_task tasks t.scale s j (leaf_on bounds t s (get_or (onto_at bounds t s) q
+      None)) task).0
     where
       same : onto_at bounds t s ≡ onto_at bounds t 0
       same = onto_const bounds t h leaves roots s
 
       go : (o : Option ℕ) → get_or (onto_at bounds t s) q None ≡ o → is_of_task j (leaf_on bounds t s o) ≡ true →
-          (x : ℕ) × IsLeaf t x × (leaf t x ≡ Task (task_id j)) × (q < length (onto_at bounds t 0)) × (is_node t (home t x) (get_or (onto_at bounds t 0) q None) ≡ true)
+          (x : ℕ) × IsLeaf t x × (leaf t x ≡ Task (task_id j)) × (q < length (onto_at bounds t 0))
+          × (is_node t (home t x) (get_or (onto_at bounds t 0) q None) ≡ true)
       go None o_is is = absurd (both_ways false refl is)
       go (Some i) o_is is =
           (let some = held_at (onto_at bounds t s) q i l o_is in
@@ -159,5 +167,6 @@ module _ (tasks : List declared.Task) (t : Tree) (h : IsTree t) (leaves : HaveBo
       (schedule_all tasks t stop IsAtHome (λ s e p up top b. row_at_home s e p b))
 
 -- the same of a set
-pub set_stays : (s : SetContents) → IsLawful s → (t : Tree) → IsTreeOf s t → ((p : ℕ) → IsPack t p → level t p ≡ 0 → dual t p ≡ None) → (stop : ℕ) → NoneMigrates (schedule s.tasks t stop)
+pub set_stays : (s : SetContents) → IsLawful s → (t : Tree) → IsTreeOf s t → ((p : ℕ) → IsPack t p → level t p ≡ 0 → dual t p ≡ None) → (stop : ℕ) →
+    NoneMigrates (schedule s.tasks t stop)
 set_stays s lawful t is roots stop = tasks_stay s.tasks t is.tree (set_leaves s.tasks lawful.each t is.tasks) is.tasks roots stop

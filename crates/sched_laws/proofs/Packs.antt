@@ -20,7 +20,8 @@ module _ (of_leaf : Leaf → ℕ → Bool) (t : Tree) (h : IsTree t) (leaves : H
   candidates n p = listed (ends_at of_leaf t n) (left_at of_leaf t n) (members t p)
 
   -- a member runs where the pack runs and its place is picked
-  pub run_at : (p k n : ℕ) → IsPack t p → k < length (members t p) → runs of_leaf t (member t p k) n ≡ (runs of_leaf t p n && is_at (earliest (candidates n p)) k)
+  pub run_at : (p k n : ℕ) → IsPack t p → k < length (members t p) → runs of_leaf t (member t p k) n ≡ (runs of_leaf t p n && is_at
+      (earliest (candidates n p)) k)
   run_at p k n i l =
       let m = h.members_are p k i l in
       run_member of_leaf t h (member t p k) n m.0
@@ -39,7 +40,8 @@ module _ (of_leaf : Leaf → ℕ → Bool) (t : Tree) (h : IsTree t) (leaves : H
       ∙ ends_is of_leaf t (member t p k) n
 
   -- who runs was picked
-  pub picked_by : (p k n : ℕ) → IsPack t p → k < length (members t p) → runs of_leaf t (member t p k) n ≡ true → (runs of_leaf t p n ≡ true) × (earliest (candidates n p) ≡ Some k)
+  pub picked_by : (p k n : ℕ) → IsPack t p → k < length (members t p) → runs of_leaf t (member t p k) n ≡ true → (runs of_leaf t p n ≡ true)
+      × (earliest (candidates n p) ≡ Some k)
   picked_by p k n i l e =
       let both = and_parts (runs of_leaf t p n) (is_at (earliest (candidates n p)) k) (sym (run_at p k n i l) ∙ e) in
       (both.0, is_at_some (earliest (candidates n p)) k both.1)
@@ -51,9 +53,11 @@ module _ (of_leaf : Leaf → ℕ → Bool) (t : Tree) (h : IsTree t) (leaves : H
     windows = λ k l. windows_of (is_boundary of_leaf t (member t p k)) (member_has of_leaf t h leaves (member t p k) (h.members_are p k i l).0);
     pack_windows = windows_of (is_boundary of_leaf t p) (pack_has of_leaf t h leaves (level t p) p i refl);
     ends_first = λ k u l. end_first (is_boundary of_leaf t (member t p k)) (is_boundary of_leaf t p)
-        (member_has of_leaf t h leaves (member t p k) (h.members_are p k i l).0) (pack_has of_leaf t h leaves (level t p) p i refl) (bound_member of_leaf t h p k i l) u;
+        (member_has of_leaf t h leaves (member t p k) (h.members_are p k i l).0) (pack_has of_leaf t h leaves (level t p) p i refl) (bound_member of_leaf t
+        h p k i l) u;
     begins_last = λ k u l. begin_last (is_boundary of_leaf t (member t p k)) (is_boundary of_leaf t p)
-        (member_has of_leaf t h leaves (member t p k) (h.members_are p k i l).0) (pack_has of_leaf t h leaves (level t p) p i refl) (bound_member of_leaf t h p k i l) u;
+        (member_has of_leaf t h leaves (member t p k) (h.members_are p k i l).0) (pack_has of_leaf t h leaves (level t p) p i refl) (bound_member of_leaf t
+        h p k i l) u;
     within = λ k n l e. (picked_by p k n i l e).0;
     has_left = λ k n l e. (
         let P : Option ℕ → Type 0 = λ o. IsBestOf (candidates n p) (length (candidates n p)) o in
@@ -71,7 +75,8 @@ module _ (of_leaf : Leaf → ℕ → Bool) (t : Tree) (h : IsTree t) (leaves : H
     where
       pick : (k n : ℕ) → k < length (members t p) → runs of_leaf t p n ≡ true → 0 < left (server of_leaf t p) k n →
           (o : Option ℕ) → earliest (candidates n p) ≡ o →
-          (j : ℕ) × (j < length (members t p)) × (runs of_leaf t (member t p j) n ≡ true) × ((server of_leaf t p).ends j (n / t.scale) ≤ (server of_leaf t p).ends k (n / t.scale))
+          (j : ℕ) × (j < length (members t p)) × (runs of_leaf t (member t p j) n ≡ true) × ((server of_leaf t p).ends j (n / t.scale) ≤ (server of_leaf t
+          p).ends k (n / t.scale))
       pick k n l on some None e =
           (let P : Option ℕ → Type 0 = λ o. IsBestOf (candidates n p) (length (candidates n p)) o in
           let none : IsBestOf (candidates n p) (length (candidates n p)) None = subst P e (earliest_best (candidates n p)) in

@@ -22,7 +22,8 @@ module _ (of_leaf : Leaf → ℕ → Bool) (t : Tree) (h : IsTree t) (leaves : H
   pub running_count : (n : ℕ) → sum_to (length (packs_running of_leaf t n)) (λ i. bit (is_running (packs_running of_leaf t n) i)) ≡ t.processors
   running_count n =
       ap (λ c. sum_to c (λ i. bit (is_running (packs_running of_leaf t n) i))) (length-running of_leaf t n)
-      ∙ sum_to-same (length (packs_at t 0)) (λ i. bit (is_running (packs_running of_leaf t n) i)) (λ i. bit (runs of_leaf t (get_or (packs_at t 0) i 0) n)) (λ i l. ap bit (running_is of_leaf t n i l))
+      ∙ sum_to-same (length (packs_at t 0)) (λ i. bit (is_running (packs_running of_leaf t n) i)) (λ i. bit (runs of_leaf t (get_or (packs_at t 0) i 0) n))
+      (λ i l. ap bit (running_is of_leaf t n i l))
       ∙ over_packs t (λ p. bit (runs of_leaf t p n))
       ∙ processors_run of_leaf t h leaves n
 
@@ -56,7 +57,8 @@ module _ (of_leaf : Leaf → ℕ → Bool) (t : Tree) (h : IsTree t) (leaves : H
   full n =
       let c = running_count n in
       let all = sum_held (length (packs_at t 0)) (onto_at of_leaf t n) (λ i some. (onto_within n i some).0) in
-      let same = sum_to-same (length (packs_at t 0)) (λ i. held (onto_at of_leaf t n) i) (λ i. bit (is_running (packs_running of_leaf t n) i)) (λ i l. held_onto n i) in
+      let same = sum_to-same (length (packs_at t 0)) (λ i. held (onto_at of_leaf t n) i) (λ i. bit (is_running (packs_running of_leaf t n) i))
+      (λ i l. held_onto n i) in
       let c' = ap (λ k. sum_to k (λ i. bit (is_running (packs_running of_leaf t n) i))) (length-running of_leaf t n) in
       let long = length-places of_leaf t (suc n) in
       let open_it = ap length (onto_is of_leaf t n) in

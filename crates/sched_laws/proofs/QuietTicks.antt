@@ -1,5 +1,6 @@
 -- What a tick without an event says.
-use Rattle.std.proofs.Common.{Bool, ap, arith, div-add-mod', eq-eqb, eqb, false, inl, inr, length, not, refl, suc, true, zero-add, ℕ, ◌%◌, ◌&&◌, ◌*◌, ◌/◌, ◌<◌, ◌^◌, ◌∙◌, ◌≡◌}
+use Rattle.std.proofs.Common.{Bool, ap, arith, div-add-mod', eq-eqb, eqb, false, inl, inr, length, not, refl, suc, true, zero-add, ℕ, ◌%◌, ◌&&◌, ◌*◌}
+use Rattle.std.proofs.Common.{◌/◌, ◌<◌, ◌^◌, ◌∙◌, ◌≡◌}
 use Rattle.std.proofs.lemmas.Bool.{and_cases, and_from, both_ways, cases_eq, false_from_ne_true, or_parts}
 use Rattle.std.proofs.lemmas.List.Folds.{list_any_at}
 use Rattle.std.proofs.lemmas.List.FromFn.{get_or-range_with_len, length-range_with_len}
@@ -36,7 +37,8 @@ module _ (of_leaf : Leaf → ℕ → Bool) (t : Tree) (h : IsTree t)
   calm_unspent x i run =
       elim (cases_eq (left_at of_leaf t (suc n) x) 0) [
         | inl z ↦ absurd (both_ways (runs_dry of_leaf t n x) (none_of (λ y. runs_dry of_leaf t n y) calm_parts.1 x i.0)
-            (and_from (not (is_pack (kind_at t x)) && runs of_leaf t x n) (eqb (left_at of_leaf t (suc n) x) 0) (and_from (not (is_pack (kind_at t x))) (runs of_leaf t x n) (ap not i.1) run) (eq-eqb (left_at of_leaf t (suc n) x) 0 z)))
+            (and_from (not (is_pack (kind_at t x)) && runs of_leaf t x n) (eqb (left_at of_leaf t (suc n) x) 0) (and_from (not (is_pack (kind_at t x)))
+            (runs of_leaf t x n) (ap not i.1) run) (eq-eqb (left_at of_leaf t (suc n) x) 0 z)))
         | inr ne ↦ omega arith
       ]
 

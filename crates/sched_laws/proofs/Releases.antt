@@ -1,5 +1,6 @@
 -- Rows before a task's offset, and that its first release is an event.
-use Rattle.std.proofs.Common.{Bool, List, ap, arith, eq-eqb, eqb, false, inl, inr, length, ltb, mul-div_cancel, refl, suc, sym, true, zero, zero-add, ℕ, ◌%◌, ◌&&◌, ◌*◌, ◌+◌, ◌/◌, ◌∙◌, ◌≡◌, ◌≤◌}
+use Rattle.std.proofs.Common.{Bool, List, ap, arith, eq-eqb, eqb, false, inl, inr, length, ltb, mul-div_cancel, refl, suc, sym, true, zero, zero-add}
+use Rattle.std.proofs.Common.{ℕ, ◌%◌, ◌&&◌, ◌*◌, ◌+◌, ◌/◌, ◌∙◌, ◌≡◌, ◌≤◌}
 use Rattle.std.proofs.lemmas.Bool.{and_from, both_ways, cases_Bool, eqb-true, le-ltb, ltb-false, or_left}
 use Rattle.std.proofs.lemmas.List.Folds.{list_any_at}
 use Rattle.std.proofs.lemmas.List.FromFn.{get_or-range_with_len, length-range_with_len}
@@ -21,7 +22,8 @@ use Rattle.run_tree.proofs.SetBoundaryLemmas.{offset_at}
 use Rattle.sched_base.specs.declared.sets.Task as declared
 
 -- a row that shows a task is one of its leaf, and starts at its offset or later
-pub shown_task : (tasks : List declared.Task) (scale start j : ℕ) (l : Leaf) → is_of_task j (shown tasks scale start l) ≡ true → (is_of_task j l ≡ true) × ((task_at tasks j).offset * scale ≤ start)
+pub shown_task : (tasks : List declared.Task) (scale start j : ℕ) (l : Leaf) → is_of_task j (shown tasks scale start l) ≡ true → (is_of_task j l ≡ true)
+    × ((task_at tasks j).offset * scale ≤ start)
 shown_task tasks scale start j (Task id) e =
     elim (cases_Bool (ltb start ((task_at tasks id.0).offset * scale))) [
       | inl on ↦ absurd (both_ways false refl (sym (ap (λ (b : Bool). is_of_task j (elim b as (λ y. Leaf) [ true ↦ Wait id | false ↦ Task id ])) on) ∙ e))
@@ -36,16 +38,20 @@ shown_task tasks scale start j (Idle number) e = absurd (both_ways false refl e)
 shown_task tasks scale start j Empty e = absurd (both_ways false refl e)
 
 -- from the offset on a task's leaf is shown as the task
-pub shown_kept : (tasks : List declared.Task) (scale start j : ℕ) (l : Leaf) → is_of_task j l ≡ true → (task_at tasks j).offset * scale ≤ start → is_of_task j (shown tasks scale start l) ≡ true
+pub shown_kept : (tasks : List declared.Task) (scale start j : ℕ) (l : Leaf) → is_of_task j l ≡ true → (task_at tasks j).offset * scale ≤ start →
+    is_of_task j (shown tasks scale start l) ≡ true
 shown_kept tasks scale start j l e low =
     ap (λ m. is_of_task j (shown tasks scale start m)) (is_of_task_same j l e)
-    ∙ ap (λ (b : Bool). is_of_task j (elim b as (λ y. Leaf) [ true ↦ Wait (task_id j) | false ↦ Task (task_id j) ])) (le-ltb start ((task_at tasks j).offset * scale) low)
+    ∙ ap (λ (b : Bool). is_of_task j (elim b as (λ y. Leaf) [ true ↦ Wait (task_id j) | false ↦ Task (task_id j) ]))
+    (le-ltb start ((task_at tasks j).offset * scale) low)
     ∙ eq-eqb j j refl
 
 -- so from the offset on rows are of the task where their leaf is
-pub shown_same : (tasks : List declared.Task) (scale start j : ℕ) (l : Leaf) → (task_at tasks j).offset * scale ≤ start → is_of_task j (shown tasks scale start l) ≡ is_of_task j l
+pub shown_same : (tasks : List declared.Task) (scale start j : ℕ) (l : Leaf) → (task_at tasks j).offset * scale ≤ start →
+    is_of_task j (shown tasks scale start l) ≡ is_of_task j l
 shown_same tasks scale start j l low =
-    same_Bool (is_of_task j (shown tasks scale start l)) (is_of_task j l) (λ e. (shown_task tasks scale start j l e).0) (λ e. shown_kept tasks scale start j l e low)
+    same_Bool (is_of_task j (shown tasks scale start l)) (is_of_task j l) (λ e. (shown_task tasks scale start j l e).0) (λ e. shown_kept tasks scale start j
+    l e low)
 
 -- only an empty leaf is shown as empty
 pub shown_empty : (tasks : List declared.Task) (scale start : ℕ) (l : Leaf) → shown tasks scale start l ≡ Empty → l ≡ Empty
@@ -58,7 +64,8 @@ shown_empty tasks scale start (Idle number) e = e
 shown_empty tasks scale start Empty e = e
 
 -- a task's first release is an event
-pub release_event : (tasks : List declared.Task) (t : Tree) → IsTree t → (x j : ℕ) → IsLeaf t x → leaf t x ≡ Task (task_id j) → is_event (set_boundary tasks) t ((task_at tasks j).offset * t.scale) ≡ true
+pub release_event : (tasks : List declared.Task) (t : Tree) → IsTree t → (x j : ℕ) → IsLeaf t x → leaf t x ≡ Task (task_id j) →
+    is_event (set_boundary tasks) t ((task_at tasks j).offset * t.scale) ≡ true
 unfolding is_event
 release_event tasks t h x j i e = go ((task_at tasks j).offset * t.scale) refl
   where

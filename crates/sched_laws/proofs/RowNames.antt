@@ -1,5 +1,6 @@
 -- The tasks that rows name.
-use Rattle.std.proofs.Common.{◌≡◌, ℕ, suc, ◌*◌, ◌<◌, Bool, List, None, Option, Some, [], ◌∷◌, ap, arith, eq-eqb, eqb, get_or, inl, inr, le_refl, length, ltb, refl, subst, sym, ◌∙◌, true, false}
+use Rattle.std.proofs.Common.{◌≡◌, ℕ, suc, ◌*◌, ◌<◌, Bool, List, None, Option, Some, [], ◌∷◌, ap, arith, eq-eqb, eqb, get_or, inl, inr, le_refl}
+use Rattle.std.proofs.Common.{length, ltb, refl, subst, sym, ◌∙◌, true, false}
 use Rattle.std.proofs.lemmas.Bool.{cases_Bool}
 use Rattle.std.specs.List.{AllByRecursion}
 use Rattle.sched_base.specs.declared.rows.Leaf.{Leaf}
@@ -35,11 +36,13 @@ shown_names tasks scale start Empty h = tt
 
 -- where the packs on the processors run leaves of the tasks, the rows name tasks
 rows_name : (tasks : List declared.Task) (t : Tree) (s e p : ℕ) (onto : List (Option ℕ))
-    → ((i : ℕ) → 0 < held onto i → NamesOneOf tasks (leaf_in (set_boundary tasks) t s (get_or (packs_at t 0) i 0))) → AllByRecursion (λ r. NamesOneOf tasks r.leaf) (rows_from tasks t s e p onto)
+    → ((i : ℕ) → 0 < held onto i → NamesOneOf tasks (leaf_in (set_boundary tasks) t s (get_or (packs_at t 0) i 0))) →
+    AllByRecursion (λ r. NamesOneOf tasks r.leaf) (rows_from tasks t s e p onto)
 rows_name tasks t s e p [] f = tt
 rows_name tasks t s e p (None ∷ onto) f = (tt, rows_name tasks t s e (suc p) onto (λ i some. f i (omega arith)))
 rows_name tasks t s e p (Some i ∷ onto) f = (
-  shown_names tasks t.scale s (leaf_in (set_boundary tasks) t s (get_or (packs_at t 0) i 0)) (f i (let o = bit_at (eqb i i) (eq-eqb i i refl) in omega (arith, o))),
+  shown_names tasks t.scale s (leaf_in (set_boundary tasks) t s (get_or (packs_at t 0) i 0)) (f i (let o = bit_at (eqb i i) (eq-eqb i i refl) in
+      omega (arith, o))),
   rows_name tasks t s e (suc p) onto (λ j some. f j (omega arith)),
 )
 
@@ -71,4 +74,5 @@ module _ (tasks : List declared.Task) (t : Tree) (h : IsTree t) (leaves : HaveBo
 pub schedule_names : (p : PlanContents) → IsPlan p → AllByRecursion (λ r. NamesOneOf p.set.tasks r.leaf) (schedule_of p)
 schedule_names p h = from_rounds p.set.tasks p.tree (stop_of p) (λ rows. AllByRecursion (λ r. NamesOneOf p.set.tasks r.leaf) rows) tt
     (λ n e. over_rounds p.set.tasks p.tree (λ r. NamesOneOf p.set.tasks r.leaf) (stop_of p) 0
-    (λ begin end low up top. round_names p.set.tasks p.tree h.tree.tree (set_leaves p.set.tasks h.lawful.each p.tree h.tree.tasks) h.tree.tasks begin end) n 1 0 e (le_refl 0) (omega arith))
+    (λ begin end low up top. round_names p.set.tasks p.tree h.tree.tree (set_leaves p.set.tasks h.lawful.each p.tree h.tree.tasks) h.tree.tasks begin end) n
+    1 0 e (le_refl 0) (omega arith))

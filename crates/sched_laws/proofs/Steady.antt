@@ -66,7 +66,8 @@ module _ (of_leaf : Leaf → ℕ → Bool) (t : Tree) (h : IsTree t) (leaves : H
       ]
 
   -- and the same are picked
-  pub picked_still : (x : ℕ) → IsMember t x → is_picked t (left_at of_leaf t (suc n)) (ends_at of_leaf t (suc n)) x ≡ is_picked t (left_at of_leaf t n) (ends_at of_leaf t n) x
+  pub picked_still : (x : ℕ) → IsMember t x → is_picked t (left_at of_leaf t (suc n)) (ends_at of_leaf t (suc n)) x ≡ is_picked t (left_at of_leaf t n)
+      (ends_at of_leaf t n) x
   picked_still x i =
       let p = (h.homes_are x i).0 in
       ap (λ o. is_at o (place t x))
@@ -79,7 +80,8 @@ module _ (of_leaf : Leaf → ℕ → Bool) (t : Tree) (h : IsTree t) (leaves : H
   pub pack_still : (p : ℕ) → IsPack t p → runs of_leaf t p (suc n) ≡ runs of_leaf t p n
   pack_still p i =
       runs_is of_leaf t p (suc n) i.0 ∙ now_pack t h (left_at of_leaf t (suc n)) (ends_at of_leaf t (suc n)) p i
-      ∙ same_pack_runs t h (is_picked t (left_at of_leaf t (suc n)) (ends_at of_leaf t (suc n))) (is_picked t (left_at of_leaf t n) (ends_at of_leaf t n)) picked_still (t.levels - 1 - level t p) p i
+      ∙ same_pack_runs t h (is_picked t (left_at of_leaf t (suc n)) (ends_at of_leaf t (suc n))) (is_picked t (left_at of_leaf t n) (ends_at of_leaf t n))
+      picked_still (t.levels - 1 - level t p) p i
       ∙ sym (now_pack t h (left_at of_leaf t n) (ends_at of_leaf t n) p i) ∙ sym (runs_is of_leaf t p n i.0)
 
   -- the same members run

@@ -29,7 +29,8 @@ leaf_in of_leaf t n p = leaf_among of_leaf t n (members t p)
 
 module _ (of_leaf : Leaf → ℕ → Bool) (t : Tree) (h : IsTree t) (leaves : HaveBoundaries of_leaf t) where
   -- the leaf of a pack that runs
-  pub leaf_in_runs : (p n : ℕ) → IsPack t p → runs of_leaf t p n ≡ true → (k : ℕ) × (k < length (members t p)) × (runs of_leaf t (member t p k) n ≡ true) × (leaf_in of_leaf t n p ≡ leaf t (member t p k))
+  pub leaf_in_runs : (p n : ℕ) → IsPack t p → runs of_leaf t p n ≡ true → (k : ℕ) × (k < length (members t p)) × (runs of_leaf t (member t p k) n ≡ true)
+      × (leaf_in of_leaf t n p ≡ leaf t (member t p k))
   leaf_in_runs p n i on =
       let law = server_serves of_leaf t h leaves p i in
       let (k, l, run) = member_runs of_leaf t h leaves p n i on in
@@ -37,7 +38,8 @@ module _ (of_leaf : Leaf → ℕ → Bool) (t : Tree) (h : IsTree t) (leaves : H
 
   module _ (x j : ℕ) (is_x : IsLeaf t x) (of_x : leaf t x ≡ Task (task_id j)) (once : (y : ℕ) → IsLeaf t y → leaf t y ≡ Task (task_id j) → y ≡ x) where
     -- a pack of level 0 runs task j where it is the task's and the task runs
-    pub pack_task : (p n : ℕ) → p < length t.nodes → bit (at_level t 0 p) * (bit (runs of_leaf t p n) * bit (is_of_task j (leaf_in of_leaf t n p))) ≡ bit (eqb p (home t x)) * bit (runs of_leaf t x n)
+    pub pack_task : (p n : ℕ) → p < length t.nodes → bit (at_level t 0 p) * (bit (runs of_leaf t p n) * bit (is_of_task j (leaf_in of_leaf t n p))) ≡ bit
+        (eqb p (home t x)) * bit (runs of_leaf t x n)
     pack_task p n b =
         ap (λ w. bit (at_level t 0 p) * w) (sym (bit_and (runs of_leaf t p n) (is_of_task j (leaf_in of_leaf t n p))))
         ∙ sym (bit_and (at_level t 0 p) (runs of_leaf t p n && is_of_task j (leaf_in of_leaf t n p)))
@@ -56,7 +58,8 @@ module _ (of_leaf : Leaf → ℕ → Bool) (t : Tree) (h : IsTree t) (leaves : H
         let same = eqb-true p (home t x) both.0 in
         let m : IsMember t x = (is_x.0, not_pack_leaf (kind_at t x) is_x.1) in
         let at = h.homes_are x m in
-        let on = (and_parts (runs of_leaf t (home t x) n) (is_picked t (left_at of_leaf t n) (ends_at of_leaf t n) x) (sym (run_member of_leaf t h x n m) ∙ both.1)).0 in
+        let on = (and_parts (runs of_leaf t (home t x) n) (is_picked t (left_at of_leaf t n) (ends_at of_leaf t n) x) (sym (run_member of_leaf t h x n m)
+        ∙ both.1)).0 in
         let (k, l, run, shows) = leaf_in_runs (home t x) n at.0 on in
         let here = (server_serves of_leaf t h leaves (home t x) at.0).alone k (place t x) n l at.1 run (ap (λ z. runs of_leaf t z n) at.2 ∙ both.1) in
         let task : leaf_in of_leaf t n (home t x) ≡ Task (task_id j) = shows ∙ ap (λ q. leaf t (member t (home t x) q)) here ∙ ap (λ z. leaf t z) at.2 ∙ of_x in
@@ -71,12 +74,15 @@ module _ (of_leaf : Leaf → ℕ → Bool) (t : Tree) (h : IsTree t) (leaves : H
     task_on n =
         let v : ℕ → ℕ = λ p. bit (is_of_task j (leaf_in of_leaf t n p)) in
         let home_x = (h.homes_are x (is_x.0, not_pack_leaf (kind_at t x) is_x.1)).0 in
-        sum_on_packs (length (packs_at t 0)) (λ i. bit (is_of_task j (leaf_in of_leaf t n (get_or (packs_at t 0) i 0)))) (onto_at of_leaf t n) (λ i some. (onto_within of_leaf t h leaves n i some).0)
+        sum_on_packs (length (packs_at t 0)) (λ i. bit (is_of_task j (leaf_in of_leaf t n (get_or (packs_at t 0) i 0)))) (onto_at of_leaf t n)
+        (λ i some. (onto_within of_leaf t h leaves n i some).0)
         ∙ sum_to-same (length (packs_at t 0)) (λ i. held (onto_at of_leaf t n) i * bit (is_of_task j (leaf_in of_leaf t n (get_or (packs_at t 0) i 0))))
         (λ i. bit (runs of_leaf t (get_or (packs_at t 0) i 0) n) * bit (is_of_task j (leaf_in of_leaf t n (get_or (packs_at t 0) i 0))))
-        (λ i l. ap (λ w. w * bit (is_of_task j (leaf_in of_leaf t n (get_or (packs_at t 0) i 0)))) (held_onto of_leaf t h leaves n i ∙ ap bit (running_is of_leaf t n i l)))
+        (λ i l. ap (λ w. w * bit (is_of_task j (leaf_in of_leaf t n (get_or (packs_at t 0) i 0)))) (held_onto of_leaf t h leaves n i
+        ∙ ap bit (running_is of_leaf t n i l)))
         ∙ over_packs t (λ p. bit (runs of_leaf t p n) * bit (is_of_task j (leaf_in of_leaf t n p)))
-        ∙ sum_to-same (length t.nodes) (λ p. bit (at_level t 0 p) * (bit (runs of_leaf t p n) * bit (is_of_task j (leaf_in of_leaf t n p)))) (λ p. bit (eqb p (home t x)) * bit (runs of_leaf t x n)) (λ p b. pack_task p n b)
+        ∙ sum_to-same (length t.nodes) (λ p. bit (at_level t 0 p) * (bit (runs of_leaf t p n) * bit (is_of_task j (leaf_in of_leaf t n p))))
+        (λ p. bit (eqb p (home t x)) * bit (runs of_leaf t x n)) (λ p b. pack_task p n b)
         ∙ sum_to-one (length t.nodes) (λ p. bit (eqb p (home t x)) * bit (runs of_leaf t x n)) (home t x) home_x.0
         (λ p b ne. (let z = bit_off (eqb p (home t x)) (ne_eqb p (home t x) ne) in omega (arith, ap (λ w. w * bit (runs of_leaf t x n)) z)))
         ∙ (let one = bit_at (eqb (home t x) (home t x)) (eq-eqb (home t x) (home t x) refl) in omega (arith, ap (λ w. w * bit (runs of_leaf t x n)) one))

@@ -1,5 +1,6 @@
 -- The schedule is valid.
-use Rattle.std.proofs.Common.{Bool, List, None, Option, Some, [], ap, arith, false, get_or, inl, inr, le_refl, length, mul-le-mul_right, refl, suc, sym, true, ℕ, ◌&&◌, ◌*◌, ◌+◌, ◌<◌, ◌^◌, ◌∙◌, ◌∷◌, ◌≡◌, ◌≤◌}
+use Rattle.std.proofs.Common.{Bool, List, None, Option, Some, [], ap, arith, false, get_or, inl, inr, le_refl, length, mul-le-mul_right, refl, suc}
+use Rattle.std.proofs.Common.{sym, true, ℕ, ◌&&◌, ◌*◌, ◌+◌, ◌<◌, ◌^◌, ◌∙◌, ◌∷◌, ◌≡◌, ◌≤◌}
 use Rattle.std.proofs.lemmas.Bool.{and_from, and_parts, both_ways, cases_Bool, cases_lt}
 use Rattle.std.specs.List.{AllByRecursion}
 use Rattle.sched_base.specs.declared.rows.Leaf.{Leaf}
@@ -37,7 +38,8 @@ use Rattle.sched_laws.proofs.TaskTicks.{schedule_ticks, task_once}
 use Rattle.sched_base.specs.declared.sets.Task as declared
 
 -- up to a boundary of its leaf a task runs its rate
-pub leaf_total : (of_leaf : Leaf → ℕ → Bool) (t : Tree) (h : IsTree t) (leaves : HaveBoundaries of_leaf t) (x u : ℕ) → IsLeaf t x → of_leaf (leaf t x) u ≡ true → ticks (runs of_leaf t x) (u * t.scale) ≡ rate t x * u
+pub leaf_total : (of_leaf : Leaf → ℕ → Bool) (t : Tree) (h : IsTree t) (leaves : HaveBoundaries of_leaf t) (x u : ℕ) → IsLeaf t x →
+    of_leaf (leaf t x) u ≡ true → ticks (runs of_leaf t x) (u * t.scale) ≡ rate t x * u
 leaf_total of_leaf t h leaves x u i e =
     let m : IsMember t x = (i.0, not_pack_leaf (kind_at t x) i.1) in
     let at : is_boundary of_leaf t x u ≡ true = bound_leaf of_leaf t h x i u ∙ e in
@@ -52,7 +54,8 @@ module _ (tasks : List declared.Task) (t : Tree) (h : IsTree t) (leaves : HaveBo
   counts s j i = bit (is_of_task j (leaf_in (set_boundary tasks) t s (get_or (packs_at t 0) i 0)))
 
   -- where none counts, no row is of the task
-  pub none_counts : (s e j p : ℕ) (onto : List (Option ℕ)) → sum_on (counts s j) onto ≡ 0 → AllByRecursion (λ q. is_of_task j q.leaf ≡ true → ⊥) (rows_from tasks t s e p onto)
+  pub none_counts : (s e j p : ℕ) (onto : List (Option ℕ)) → sum_on (counts s j) onto ≡ 0 → AllByRecursion (λ q. is_of_task j q.leaf ≡ true → ⊥)
+      (rows_from tasks t s e p onto)
   unfolding counts
   none_counts s e j p [] z = tt
   none_counts s e j p (None ∷ onto) z = ((λ b. both_ways false refl b), none_counts s e j (suc p) onto z)
@@ -71,12 +74,15 @@ module _ (tasks : List declared.Task) (t : Tree) (h : IsTree t) (leaves : HaveBo
   tasks_apart s e p [] f = tt
   tasks_apart s e p (None ∷ onto) f = (rows_from_all tasks t _ s e (suc p) onto (λ q k a b j x y. both_ways false refl x), tasks_apart s e (suc p) onto f)
   tasks_apart s e p (Some i ∷ onto) f = (
-    AllByRecursion-each (λ j q. is_of_task j (shown tasks t.scale s (leaf_in (set_boundary tasks) t s (get_or (packs_at t 0) i 0))) ≡ true → is_of_task j q.leaf ≡ true → ⊥) (rows_from tasks t s e (suc p) onto)
+    AllByRecursion-each (λ j q. is_of_task j (shown tasks t.scale s (leaf_in (set_boundary tasks) t s (get_or (packs_at t 0) i 0))) ≡ true →
+        is_of_task j q.leaf ≡ true → ⊥) (rows_from tasks t s e (suc p) onto)
         (λ j. elim (cases_Bool (is_of_task j (leaf_in (set_boundary tasks) t s (get_or (packs_at t 0) i 0)))) [
           | inl on ↦ AllByRecursion-by (λ q. is_of_task j q.leaf ≡ true → ⊥) _ (rows_from tasks t s e (suc p) onto) (λ q no_q x y. no_q y)
-              (none_counts s e j (suc p) onto (let l = f j in let o = bit_at (is_of_task j (leaf_in (set_boundary tasks) t s (get_or (packs_at t 0) i 0))) on in omega (arith, l, o)))
+              (none_counts s e j (suc p) onto (let l = f j in let o = bit_at (is_of_task j (leaf_in (set_boundary tasks) t s (get_or (packs_at t 0) i 0)))
+              on in omega (arith, l, o)))
           | inr off ↦ rows_from_all tasks t _ s e (suc p) onto (λ q k a b x y.
-              both_ways (is_of_task j (leaf_in (set_boundary tasks) t s (get_or (packs_at t 0) i 0))) off (shown_task tasks t.scale s j (leaf_in (set_boundary tasks) t s (get_or (packs_at t 0) i 0)) x).0)
+              both_ways (is_of_task j (leaf_in (set_boundary tasks) t s (get_or (packs_at t 0) i 0))) off (shown_task tasks t.scale s j
+              (leaf_in (set_boundary tasks) t s (get_or (packs_at t 0) i 0)) x).0)
         ]),
     tasks_apart s e (suc p) onto (λ j. (let l = f j in omega (arith, l))),
   )
@@ -94,12 +100,14 @@ module _ (tasks : List declared.Task) (t : Tree) (h : IsTree t) (leaves : HaveBo
             omega (arith, e, one))
         | inr none ↦
             (let has : ℕ → ℕ = λ i. bit (is_of_task j (leaf_in (set_boundary tasks) t s (get_or (packs_at t 0) i 0))) in
-            let e = sum_on_packs (length (packs_at t 0)) has (onto_at (set_boundary tasks) t s) (λ i some. (onto_within (set_boundary tasks) t h leaves s i some).0) in
+            let e = sum_on_packs (length (packs_at t 0)) has (onto_at (set_boundary tasks) t s) (λ i some. (onto_within (set_boundary tasks) t h leaves s i
+            some).0) in
             let z = sum_to-zero (length (packs_at t 0)) (λ i. held (onto_at (set_boundary tasks) t s) i * has i) (λ i l.
             elim (cases_lt 0 (held (onto_at (set_boundary tasks) t s) i)) [
               | inr nothing ↦ (let y : held (onto_at (set_boundary tasks) t s) i ≡ 0 = omega arith in omega (arith, ap (λ w. w * has i) y))
               | inl some ↦ elim (cases_Bool (is_of_task j (leaf_in (set_boundary tasks) t s (get_or (packs_at t 0) i 0)))) [
-                | inr off ↦ (let y = bit_off (is_of_task j (leaf_in (set_boundary tasks) t s (get_or (packs_at t 0) i 0))) off in omega (arith, ap (λ w. held (onto_at (set_boundary tasks) t s) i * w) y))
+                | inr off ↦ (let y = bit_off (is_of_task j (leaf_in (set_boundary tasks) t s (get_or (packs_at t 0) i 0))) off in
+                    omega (arith, ap (λ w. held (onto_at (set_boundary tasks) t s) i * w) y))
                 | inl on ↦ absurd (some_leaf i l some on none)
               ]
             ]) in
@@ -169,7 +177,8 @@ module _ (tasks : List declared.Task) (t : Tree) (h : IsTree t) (leaves : HaveBo
         let exact = ap (λ r. r * (task_at tasks j).period) rated ∙ rate_exact tasks t.scale scaled j l in (
           x,
           is_x,
-          schedule_ticks tasks t h leaves holds x j is_x of_x (period_start t.scale (task_at tasks j) k) (period_start t.scale (task_at tasks j) (k + 1)) (omega arith) stop early,
+          schedule_ticks tasks t h leaves holds x j is_x of_x (period_start t.scale (task_at tasks j) k) (period_start t.scale (task_at tasks j) (k + 1))
+              (omega arith) stop early,
           omega (arith, low, high, exact),
         )
 
@@ -180,22 +189,27 @@ schedule_valid s lawful t is stop early horizon l =
     let leaves = set_leaves s.tasks lawful.each t is.tasks in
     let same = is.processors in
     record {
-      bounded = AllByRecursion-by _ _ (schedule s.tasks t stop) (λ r b. (let p = b.0 in omega (arith, p, same), b.1)) (all_bounded s.tasks t is.tree leaves is.tasks stop);
+      bounded = AllByRecursion-by _ _ (schedule s.tasks t stop) (λ r b. (let p = b.0 in omega (arith, p, same), b.1)) (all_bounded s.tasks t is.tree leaves
+          is.tasks stop);
       processors_apart = all_processors_apart s.tasks t is.tree leaves is.tasks stop;
       tasks_apart = all_tasks_apart s.tasks t is.tree leaves is.tasks stop;
       full = λ j k b ends.
           (let (x, is_x, rows, due) = period_ticks s.tasks t is.tree leaves is.tasks stop early is.scale j k b in
-          let all = in_ticks_all (runs (set_boundary s.tasks) t x) (period_start t.scale (task_at s.tasks j) k) (period_start t.scale (task_at s.tasks j) (k + 1)) stop (omega arith) (omega (arith, ends, l)) in
+          let all = in_ticks_all (runs (set_boundary s.tasks) t x) (period_start t.scale (task_at s.tasks j) k) (period_start t.scale (task_at s.tasks j)
+          (k + 1)) stop (omega arith) (omega (arith, ends, l)) in
           omega (arith, rows, due, all));
       no_more = λ j k b.
           (let (x, is_x, rows, due) = period_ticks s.tasks t is.tree leaves is.tasks stop early is.scale j k b in
-          let all = in_ticks_some (runs (set_boundary s.tasks) t x) (period_start t.scale (task_at s.tasks j) k) (period_start t.scale (task_at s.tasks j) (k + 1)) stop (omega arith) in
+          let all = in_ticks_some (runs (set_boundary s.tasks) t x) (period_start t.scale (task_at s.tasks j) k) (period_start t.scale (task_at s.tasks j)
+          (k + 1)) stop (omega arith) in
           omega (arith, rows, due, all));
       released = AllByRecursion-by _ _ (schedule s.tasks t stop) (λ r late j b task. late j task) (all_released s.tasks t is.tree leaves is.tasks stop);
     }
 
 -- up to its horizon too
-pub set_valid : (s : SetContents) → IsLawful s → (t : Tree) → IsTreeOf s t → IsValid s t.scale (s.horizon * t.scale) (s.horizon * t.scale) (schedule s.tasks t (s.horizon * t.scale))
+pub set_valid : (s : SetContents) → IsLawful s → (t : Tree) → IsTreeOf s t → IsValid s t.scale (s.horizon * t.scale) (s.horizon * t.scale)
+    (schedule s.tasks t (s.horizon * t.scale))
 set_valid s lawful t is =
     let fits = lawful.horizon_fits in
-    schedule_valid s lawful t is (s.horizon * t.scale) (mul-le-mul_right t.scale (omega (arith, fits, two_limits))) (s.horizon * t.scale) (le_refl (s.horizon * t.scale))
+    schedule_valid s lawful t is (s.horizon * t.scale) (mul-le-mul_right t.scale (omega (arith, fits, two_limits))) (s.horizon * t.scale)
+    (le_refl (s.horizon * t.scale))

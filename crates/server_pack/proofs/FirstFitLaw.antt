@@ -6,14 +6,17 @@ use Rattle.std.proofs.Math.ListN.{get_or-eq_default}
 use Rattle.sched_base.specs.Counting.{bit}
 use Rattle.sched_base.specs.FirstFit.{first_with_room, with_item, packed_from, packed, homes_from, homes, load, IsFirstFit}
 use Rattle.sched_base.proofs.SumLemmas.{sum_to-same, sum_to_front}
-use Rattle.server_pack.proofs.FitLemmas.{first_with_room-le, first_with_room-fits, first_with_room-first, rate-with_item, home-with_item, length-packed_from-ge, sum-packed_from, length-homes_from}
+use Rattle.server_pack.proofs.FitLemmas.{first_with_room-le, first_with_room-fits, first_with_room-first, rate-with_item, home-with_item}
+use Rattle.server_pack.proofs.FitLemmas.{length-packed_from-ge, sum-packed_from, length-homes_from}
 
 -- the first item's rate apart
-load-front : (rate : ℕ) (rates : List ℕ) (home : ℕ) (servers : List ℕ) (k b : ℕ) → load (rate ∷ rates) (home ∷ servers) (suc k) b ≡ bit (home == b) * rate + load rates servers k b
+load-front : (rate : ℕ) (rates : List ℕ) (home : ℕ) (servers : List ℕ) (k b : ℕ) → load (rate ∷ rates) (home ∷ servers) (suc k) b ≡ bit (home == b) * rate
+    + load rates servers k b
 load-front rate rates home servers k b = sum_to_front k (λ j. bit (get_or (home ∷ servers) j 0 == b) * get_or (rate ∷ rates) j 0)
 
 -- what a server has at the start, and its items
-loads_from : (scale : ℕ) (rates servers : List ℕ) (b : ℕ) → get_or (packed_from scale rates servers) b 0 ≡ get_or servers b 0 + load rates (homes_from scale rates servers) (length rates) b
+loads_from : (scale : ℕ) (rates servers : List ℕ) (b : ℕ) → get_or (packed_from scale rates servers) b 0 ≡ get_or servers b 0 + load rates
+    (homes_from scale rates servers) (length rates) b
 loads_from scale [] servers b = omega arith
 loads_from scale (rate ∷ rates) servers b =
     let home = first_with_room scale rate servers in
@@ -28,7 +31,8 @@ unfolding packed homes
 loads scale rates b = let all = loads_from scale rates [] b in omega (arith, all)
 
 has_room_from : (scale : ℕ) (rates servers : List ℕ) (k : ℕ) → ((j : ℕ) → get_or rates j 0 ≤ scale) → k < length rates →
-    let home = get_or (homes_from scale rates servers) k 0 in get_or servers home 0 + load rates (homes_from scale rates servers) k home + get_or rates k 0 ≤ scale
+    let home = get_or (homes_from scale rates servers) k 0 in get_or servers home 0 + load rates (homes_from scale rates servers) k home + get_or rates k
+    0 ≤ scale
 has_room_from scale [] servers k small l = absurd (omega arith)
 has_room_from scale (rate ∷ rates) servers zero small l = let fits = first_with_room-fits scale rate servers (small 0) in omega (arith, fits)
 has_room_from scale (rate ∷ rates) servers (suc k) small l =
@@ -70,7 +74,8 @@ load-same rates a b k c same =
     sum_to-same k (λ j. bit (get_or a j 0 == c) * get_or rates j 0) (λ j. bit (get_or b j 0 == c) * get_or rates j 0)
     (λ j l. ap (λ n. bit (n == c) * get_or rates j 0) (same j l))
 
-same_home : (scale : ℕ) (rates a b : List ℕ) (k : ℕ) → IsFirstFit scale rates a → IsFirstFit scale rates b → k < length rates → ((j : ℕ) → j < k → get_or a j 0 ≡ get_or b j 0) →
+same_home : (scale : ℕ) (rates a b : List ℕ) (k : ℕ) → IsFirstFit scale rates a → IsFirstFit scale rates b → k < length rates →
+    ((j : ℕ) → j < k → get_or a j 0 ≡ get_or b j 0) →
     get_or a k 0 ≡ get_or b k 0
 same_home scale rates a b k left right l so_far =
     elim (cases_order (get_or a k 0) (get_or b k 0)) [
@@ -87,7 +92,8 @@ same_home scale rates a b k left right l so_far =
           omega (arith, full, room, loads))
     ]
 
-same_homes_below : (scale : ℕ) (rates a b : List ℕ) → IsFirstFit scale rates a → IsFirstFit scale rates b → (n : ℕ) → n ≤ length rates → (j : ℕ) → j < n → get_or a j 0 ≡ get_or b j 0
+same_homes_below : (scale : ℕ) (rates a b : List ℕ) → IsFirstFit scale rates a → IsFirstFit scale rates b → (n : ℕ) → n ≤ length rates → (j : ℕ) → j < n →
+    get_or a j 0 ≡ get_or b j 0
 same_homes_below scale rates a b left right zero l j below = absurd (omega arith)
 same_homes_below scale rates a b left right (suc n) l j below =
     let so_far = same_homes_below scale rates a b left right n (omega arith) in
@@ -101,7 +107,8 @@ same_first_fit scale rates a b left right =
     same_number_lists a b (left.each ∙ sym right.each)
     (λ k l. let each = left.each in same_homes_below scale rates a b left right (length rates) (omega arith) k (omega (arith, each, l)))
 
-opened_from : (scale : ℕ) (rates servers : List ℕ) (k : ℕ) → k < length rates → get_or (homes_from scale rates servers) k 0 < length (packed_from scale rates servers)
+opened_from : (scale : ℕ) (rates servers : List ℕ) (k : ℕ) → k < length rates → get_or (homes_from scale rates servers) k 0 < length
+    (packed_from scale rates servers)
 opened_from scale [] servers k l = absurd (omega arith)
 opened_from scale (rate ∷ rates) servers zero l =
     let home = first_with_room scale rate servers in

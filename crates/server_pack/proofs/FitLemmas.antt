@@ -1,5 +1,6 @@
 -- The first server with room, and the servers' rates once an item is in it.
-use Rattle.std.proofs.Common.{◌≡◌, ℕ, zero, suc, ◌+◌, ◌*◌, ◌<◌, ◌≤◌, ◌==◌, List, [], ◌∷◌, length, get_or, sum, nat_le, Bool, true, false, refl, ap, sym, subst, arith, inl, inr, ◌∙◌}
+use Rattle.std.proofs.Common.{◌≡◌, ℕ, zero, suc, ◌+◌, ◌*◌, ◌<◌, ◌≤◌, ◌==◌, List, [], ◌∷◌, length, get_or, sum, nat_le, Bool, true, false, refl, ap}
+use Rattle.std.proofs.Common.{sym, subst, arith, inl, inr, ◌∙◌}
 use Rattle.std.proofs.lemmas.Bool.{cases_Bool, leb-true, leb-false, le-leb, lt-leb, ne_eqb}
 use Rattle.std.proofs.lemmas.List.Sums.{sum_by-cons}
 use Rattle.std.proofs.Math.Dec.{eqb-suc-suc}
@@ -14,11 +15,13 @@ room_case scale rate servers room = elim room [ true ↦ 0 | false ↦ suc (firs
 pub first_with_room-here : (scale rate s : ℕ) (servers : List ℕ) → s + rate ≤ scale → first_with_room scale rate (s ∷ servers) ≡ 0
 first_with_room-here scale rate s servers h = ap (room_case scale rate servers) (le-leb (s + rate) scale h)
 
-pub first_with_room-later : (scale rate s : ℕ) (servers : List ℕ) → scale < s + rate → first_with_room scale rate (s ∷ servers) ≡ suc (first_with_room scale rate servers)
+pub first_with_room-later : (scale rate s : ℕ) (servers : List ℕ) → scale < s + rate → first_with_room scale rate (s ∷ servers) ≡ suc (first_with_room scale
+    rate servers)
 first_with_room-later scale rate s servers h = ap (room_case scale rate servers) (lt-leb (s + rate) scale h)
 
 -- what holds in both cases
-first_with_room-cases : (P : ℕ → Type 0) (scale rate s : ℕ) (servers : List ℕ) → (s + rate ≤ scale → P 0) → (scale < s + rate → P (suc (first_with_room scale rate servers))) →
+first_with_room-cases : (P : ℕ → Type 0) (scale rate s : ℕ) (servers : List ℕ) → (s + rate ≤ scale → P 0) →
+    (scale < s + rate → P (suc (first_with_room scale rate servers))) →
     P (first_with_room scale rate (s ∷ servers))
 first_with_room-cases P scale rate s servers here later =
     elim (cases_Bool (nat_le (s + rate) scale)) [
@@ -36,7 +39,8 @@ first_with_room-le scale rate (s ∷ servers) =
 pub first_with_room-fits : (scale rate : ℕ) (servers : List ℕ) → rate ≤ scale → get_or servers (first_with_room scale rate servers) 0 + rate ≤ scale
 first_with_room-fits scale rate [] small = omega arith
 first_with_room-fits scale rate (s ∷ servers) small =
-    first_with_room-cases (λ n. get_or (s ∷ servers) n 0 + rate ≤ scale) scale rate s servers (λ room. room) (λ full. first_with_room-fits scale rate servers small)
+    first_with_room-cases (λ n. get_or (s ∷ servers) n 0 + rate ≤ scale) scale rate s servers (λ room. room) (λ full. first_with_room-fits scale rate
+    servers small)
 
 -- none before it has
 pub first_with_room-first : (scale rate : ℕ) (servers : List ℕ) (b : ℕ) → b < first_with_room scale rate servers → scale < get_or servers b 0 + rate
@@ -54,14 +58,16 @@ first_with_room-first scale rate (s ∷ servers) (suc b) =
 none_of_other : (a b rate : ℕ) → (a ≡ b → ⊥) → bit (a == b) * rate ≡ 0
 none_of_other a b rate differs = let none = ap (λ v. bit v * rate) (ne_eqb a b differs) in omega (arith, none)
 
-pub rate-with_item : (rate b : ℕ) (servers : List ℕ) (c : ℕ) → b ≤ length servers → get_or (with_item rate b servers) c 0 ≡ get_or servers c 0 + bit (b == c) * rate
+pub rate-with_item : (rate b : ℕ) (servers : List ℕ) (c : ℕ) → b ≤ length servers → get_or (with_item rate b servers) c 0 ≡ get_or servers c 0 + bit
+    (b == c) * rate
 rate-with_item rate zero [] zero l = omega arith
 rate-with_item rate zero [] (suc c) l = let none = none_of_other 0 (suc c) rate (λ e. omega arith) in omega (arith, none)
 rate-with_item rate (suc b) [] c l = absurd (omega arith)
 rate-with_item rate zero (s ∷ servers) zero l = omega arith
 rate-with_item rate zero (s ∷ servers) (suc c) l = let none = none_of_other 0 (suc c) rate (λ e. omega arith) in omega (arith, none)
 rate-with_item rate (suc b) (s ∷ servers) zero l = let none = none_of_other (suc b) 0 rate (λ e. omega arith) in omega (arith, none)
-rate-with_item rate (suc b) (s ∷ servers) (suc c) l = rate-with_item rate b servers c (omega arith) ∙ ap (λ same. get_or servers c 0 + bit same * rate) (sym (eqb-suc-suc b c))
+rate-with_item rate (suc b) (s ∷ servers) (suc c) l = rate-with_item rate b servers c (omega arith) ∙ ap (λ same. get_or servers c 0 + bit same * rate)
+    (sym (eqb-suc-suc b c))
 
 pub length-with_item-le : (rate b : ℕ) (servers : List ℕ) → length (with_item rate b servers) ≤ length servers + 1
 length-with_item-le rate b [] = omega arith

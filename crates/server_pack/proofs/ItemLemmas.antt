@@ -14,7 +14,8 @@ Contains-cons y x xs h = (suc h.0, omega (arith, h.1), h.2)
 Contains-filter : (p : ℕ → Bool) (xs : List ℕ) (x : ℕ) → p x ≡ true → Contains xs x → Contains (filter p xs) x
 Contains-filter p [] x passes h = absurd (let l = h.1 in omega (arith, l))
 Contains-filter p (y ∷ xs) x passes (zero, l, e) =
-    cond_both (p y) (y ∷ filter p xs) (filter p xs) (λ ys. Contains ys x) (λ kept. (0, omega arith, e)) (λ fails. absurd (both_ways (p y) fails (ap p e ∙ passes)))
+    cond_both (p y) (y ∷ filter p xs) (filter p xs) (λ ys. Contains ys x) (λ kept. (0, omega arith, e))
+    (λ fails. absurd (both_ways (p y) fails (ap p e ∙ passes)))
 Contains-filter p (y ∷ xs) x passes (suc k, l, e) =
     let rest = Contains-filter p xs x passes (k, omega arith, e) in
     cond_both (p y) (y ∷ filter p xs) (filter p xs) (λ ys. Contains ys x) (λ kept. Contains-cons y x (filter p xs) rest) (λ fails. rest)
@@ -23,10 +24,15 @@ Contains-filter p (y ∷ xs) x passes (suc k, l, e) =
 passes_from_filter : (p : ℕ → Bool) (xs : List ℕ) (x : ℕ) → Contains (filter p xs) x → Contains xs x × (p x ≡ true)
 passes_from_filter p [] x = λ h. absurd (let l = h.1 in omega (arith, l))
 passes_from_filter p (y ∷ xs) x =
-    let later : Contains (filter p xs) x → Contains (y ∷ xs) x × (p x ≡ true) = λ h. let rest = passes_from_filter p xs x h in (Contains-cons y x xs rest.0, rest.1) in
-    cond_both (p y) (y ∷ filter p xs) (filter p xs) (λ ys. Contains ys x → Contains (y ∷ xs) x × (p x ≡ true)) (λ passes h. first h.0 h.1 h.2 passes later) (λ fails. later)
+    let later : Contains (filter p xs) x → Contains (y ∷ xs) x × (p x ≡ true) = λ h. let rest = passes_from_filter p xs x h in (
+      Contains-cons y x xs rest.0,
+      rest.1,
+    ) in
+    cond_both (p y) (y ∷ filter p xs) (filter p xs) (λ ys. Contains ys x → Contains (y ∷ xs) x × (p x ≡ true)) (λ passes h. first h.0 h.1 h.2 passes later)
+    (λ fails. later)
   where
-    first : (k : ℕ) → k < length (y ∷ filter p xs) → get_or (y ∷ filter p xs) k x ≡ x → p y ≡ true → (Contains (filter p xs) x → Contains (y ∷ xs) x × (p x ≡ true)) → Contains (y ∷ xs) x × (p x ≡ true)
+    first : (k : ℕ) → k < length (y ∷ filter p xs) → get_or (y ∷ filter p xs) k x ≡ x → p y ≡ true → (Contains (filter p xs) x → Contains (y ∷ xs) x
+        × (p x ≡ true)) → Contains (y ∷ xs) x × (p x ≡ true)
     first zero l e passes later = ((0, omega arith, e), ap p (sym e) ∙ passes)
     first (suc k) l e passes later = later (k, omega arith, e)
 

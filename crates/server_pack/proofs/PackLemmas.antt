@@ -7,7 +7,8 @@ use Rattle.server_pack.specs.declared.packing.Server.{Server}
 use Rattle.server_pack.specs.Servers.{server_at, rates_of, rate_sum, items_of, put_in, alone, with_member, HasNoIdle, IsWithin}
 use Rattle.server_pack.proofs.FitLemmas.{first_with_room-le}
 use Rattle.server_pack.proofs.FirstFitLaw.{sum-packed}
-use Rattle.server_pack.proofs.ServerLemmas.{put_in-joins, put_in-opens, rates-put_in, length-put_in, idle-put_in, members-put_in, within-put_in, if_here, items_from, items_from-all}
+use Rattle.server_pack.proofs.ServerLemmas.{put_in-joins, put_in-opens, rates-put_in, length-put_in, idle-put_in, members-put_in, within-put_in}
+use Rattle.server_pack.proofs.ServerLemmas.{if_here, items_from, items_from-all}
 
 -- the first server with room is one of the servers, or their number
 pub home-le : (scale rate : ℕ) (servers : List Server) → first_with_room scale rate (rates_of servers) ≤ length servers
@@ -21,13 +22,15 @@ pub record Packs (scale i : ℕ) (rates : List ℕ) (servers : List Server) : Ty
   pub few : length servers ≤ i
   pub within : IsWithin scale servers
   pub rest : packed_from scale (drop i rates) (rates_of servers) ≡ packed_from scale rates []
-  pub members : (b : ℕ) → (server_at servers b).members ++ items_from i (homes_from scale (drop i rates) (rates_of servers)) b ≡ items_from 0 (homes_from scale rates []) b
+  pub members : (b : ℕ) → (server_at servers b).members ++ items_from i (homes_from scale (drop i rates) (rates_of servers)) b ≡ items_from 0
+      (homes_from scale rates []) b
   pub no_idle : HasNoIdle servers
 
 pub Packs-start : (scale : ℕ) (rates : List ℕ) → Packs scale 0 rates []
 Packs-start scale rates = record { few = omega arith; within = λ b. omega arith; rest = refl; members = λ b. refl; no_idle = λ b. refl }
 
-pub Packs-next : (scale i : ℕ) (rates : List ℕ) (rate : ℕ) (servers after : List Server) → i < length rates → rate ≡ get_or rates i 0 → rate ≤ scale → Packs scale i rates servers →
+pub Packs-next : (scale i : ℕ) (rates : List ℕ) (rate : ℕ) (servers after : List Server) → i < length rates → rate ≡ get_or rates i 0 → rate ≤ scale →
+    Packs scale i rates servers →
     after ≡ put_in rate i (first_with_room scale rate (rates_of servers)) servers → Packs scale (i + 1) rates after
 Packs-next scale i rates rate servers after l at small h made =
     let home = first_with_room scale rate (rates_of servers) in
@@ -49,11 +52,13 @@ Packs-next scale i rates rate servers after l at small h made =
       no_idle = idle-put_in rate i home servers h.no_idle;
     })
 
-pub Packs-rates : (scale i : ℕ) (rates : List ℕ) (servers : List Server) → length rates ≤ i → Packs scale i rates servers → rates_of servers ≡ packed scale rates
+pub Packs-rates : (scale i : ℕ) (rates : List ℕ) (servers : List Server) → length rates ≤ i → Packs scale i rates servers → rates_of servers ≡ packed scale
+    rates
 unfolding packed
 Packs-rates scale i rates servers l h = sym (ap (λ xs. packed_from scale xs (rates_of servers)) (drop_all i rates l)) ∙ h.rest
 
-pub Packs-members : (scale i : ℕ) (rates : List ℕ) (servers : List Server) → length rates ≤ i → Packs scale i rates servers → (b : ℕ) → (server_at servers b).members ≡ items_of (homes scale rates) b
+pub Packs-members : (scale i : ℕ) (rates : List ℕ) (servers : List Server) → length rates ≤ i → Packs scale i rates servers → (b : ℕ) →
+    (server_at servers b).members ≡ items_of (homes scale rates) b
 unfolding homes
 Packs-members scale i rates servers l h b =
     sym (append-nil (server_at servers b).members)
@@ -67,7 +72,8 @@ Packs-sum scale i rates servers l h = sym (sum-map (λ (s : Server). s.rate) ser
 -- ---- one step of the code
 
 -- the first server with room takes the item
-pub put_in-joined : (rate item b : ℕ) (servers : List Server) (old new : Server) → b < length servers → old ≡ get_or servers b old → new ≡ with_member old rate item →
+pub put_in-joined : (rate item b : ℕ) (servers : List Server) (old new : Server) → b < length servers → old ≡ get_or servers b old →
+    new ≡ with_member old rate item →
     set servers b new ≡ put_in rate item b servers
 put_in-joined rate item b servers old new l is made =
     ap (λ s. set servers b s) (made ∙ ap (λ s. with_member s rate item) is) ∙ sym (put_in-joins rate item b servers old l)

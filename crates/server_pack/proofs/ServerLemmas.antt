@@ -1,5 +1,6 @@
 -- What an item more changes of a list of servers.
-use Rattle.std.proofs.Common.{◌≡◌, ℕ, zero, suc, ◌+◌, ◌*◌, ◌<◌, ◌≤◌, ◌==◌, List, [], ◌∷◌, ◌++◌, length, set, get_or, filter, cond, Bool, true, false, refl, ap, sym, arith, inl, inr, ◌∙◌}
+use Rattle.std.proofs.Common.{◌≡◌, ℕ, zero, suc, ◌+◌, ◌*◌, ◌<◌, ◌≤◌, ◌==◌, List, [], ◌∷◌, ◌++◌, length, set, get_or, filter, cond, Bool, true, false}
+use Rattle.std.proofs.Common.{refl, ap, sym, arith, inl, inr, ◌∙◌}
 use Rattle.std.specs.List.{range_with_len}
 use Rattle.std.proofs.lemmas.Bool.{cases_eq, eq-eqb, ne_eqb}
 use Rattle.std.proofs.lemmas.List.{append-nil}
@@ -16,7 +17,8 @@ rate-at servers b = get_or-map (λ (s : Server). s.rate) servers b no_server
 
 -- ---- the servers as the code makes them
 
-pub put_in-joins : (rate item b : ℕ) (servers : List Server) (d : Server) → b < length servers → put_in rate item b servers ≡ set servers b (with_member (get_or servers b d) rate item)
+pub put_in-joins : (rate item b : ℕ) (servers : List Server) (d : Server) → b < length servers → put_in rate item b servers ≡ set servers b
+    (with_member (get_or servers b d) rate item)
 put_in-joins rate item b [] d l = absurd (omega arith)
 put_in-joins rate item zero (s ∷ servers) d l = refl
 put_in-joins rate item (suc b) (s ∷ servers) d l = ap (λ xs. s ∷ xs) (put_in-joins rate item b servers d (omega arith))
@@ -57,7 +59,8 @@ if_here-same a b item e = ap (λ here. if_here here item) (eq-eqb a b e)
 if_here-other : (a b item : ℕ) (xs : List ℕ) → (a ≡ b → ⊥) → xs ≡ xs ++ if_here (a == b) item
 if_here-other a b item xs differs = sym (ap (λ here. xs ++ if_here here item) (ne_eqb a b differs) ∙ append-nil xs)
 
-pub members-put_in : (rate item b : ℕ) (servers : List Server) (c : ℕ) → b ≤ length servers → (server_at (put_in rate item b servers) c).members ≡ (server_at servers c).members ++ if_here (b == c) item
+pub members-put_in : (rate item b : ℕ) (servers : List Server) (c : ℕ) → b ≤ length servers → (server_at (put_in rate item b servers) c).members
+    ≡ (server_at servers c).members ++ if_here (b == c) item
 members-put_in rate item zero [] zero l = sym (if_here-same 0 0 item refl)
 members-put_in rate item zero [] (suc c) l = if_here-other 0 (suc c) item [] (λ e. omega arith)
 members-put_in rate item (suc b) [] c l = absurd (omega arith)
@@ -68,10 +71,12 @@ members-put_in rate item (suc b) (s ∷ servers) (suc c) l =
     members-put_in rate item b servers c (omega arith) ∙ ap (λ here. (server_at servers c).members ++ if_here here item) (sym (eqb-suc-suc b c))
 
 -- the rate stays within the scale
-pub within-put_in : (scale rate item : ℕ) (servers : List Server) → rate ≤ scale → IsWithin scale servers → IsWithin scale (put_in rate item (first_with_room scale rate (rates_of servers)) servers)
+pub within-put_in : (scale rate item : ℕ) (servers : List Server) → rate ≤ scale → IsWithin scale servers →
+    IsWithin scale (put_in rate item (first_with_room scale rate (rates_of servers)) servers)
 within-put_in scale rate item servers small within c =
     let home = first_with_room scale rate (rates_of servers) in
-    let new = sym (rate-at (put_in rate item home servers) c) ∙ ap (λ xs. get_or xs c 0) (rates-put_in rate item home servers) ∙ rate-with_item rate home (rates_of servers) c (first_with_room-le scale rate (rates_of servers)) in
+    let new = sym (rate-at (put_in rate item home servers) c) ∙ ap (λ xs. get_or xs c 0) (rates-put_in rate item home servers) ∙ rate-with_item rate home
+    (rates_of servers) c (first_with_room-le scale rate (rates_of servers)) in
     let old = rate-at servers c in
     let before = within c in
     elim (cases_eq home c) [
@@ -94,7 +99,8 @@ if_here-cond : (here : Bool) (item : ℕ) (xs : List ℕ) → if_here here item 
 if_here-cond true item xs = refl
 if_here-cond false item xs = refl
 
-items_from-filter : (homes all : List ℕ) (item b : ℕ) → ((j : ℕ) → get_or homes j 0 ≡ get_or all (item + j) 0) → items_from item homes b ≡ filter (λ k. get_or all k 0 == b) (range_with_len item (length homes))
+items_from-filter : (homes all : List ℕ) (item b : ℕ) → ((j : ℕ) → get_or homes j 0 ≡ get_or all (item + j) 0) → items_from item homes b ≡ filter
+    (λ k. get_or all k 0 == b) (range_with_len item (length homes))
 items_from-filter [] all item b same = refl
 items_from-filter (home ∷ homes) all item b same =
     let here : home ≡ get_or all item 0 = same 0 ∙ ap (λ n. get_or all n 0) (omega arith) in

@@ -1,5 +1,6 @@
 -- Sums of what rows give of the periods that are open at a unit.
-use Rattle.std.proofs.Common.{Bool, List, [], ◌∷◌, ◌++◌, length, ap, ap₂, append_assoc, append-nil, arith, drop, get_or, inl, inr, take, refl, replicate, subst, sym, true, false, zero, suc}
+use Rattle.std.proofs.Common.{Bool, List, [], ◌∷◌, ◌++◌, length, ap, ap₂, append_assoc, append-nil, arith, drop, get_or, inl, inr, take, refl}
+use Rattle.std.proofs.Common.{replicate, subst, sym, true, false, zero, suc}
 use Rattle.std.proofs.Common.{ℕ, ◌+◌, ◌*◌, ◌^◌, ◌<◌, ◌∙◌, ◌≡◌, ◌≤◌, ◌&&◌, eqb, add-zero}
 use Rattle.std.specs.Prelude.{nat_le, slice_get, Some}
 use Rattle.std.specs.List.{AllByRecursion, list_all, range_with_len}
@@ -128,7 +129,8 @@ periods_fit (t ∷ tasks) each =
     ((omega (arith, a, b), each.0.offset_fits), periods_fit tasks each.1)
 
 -- what holds of the periods of all tasks holds of this one
-pub period_at : (tasks : List Task) (j : ℕ) (t : Task) → j < length tasks → t ≡ get_or tasks j t → AllByRecursion (λ t. (1 ≤ t.period) × (t.offset < 2 ^ 32)) tasks
+pub period_at : (tasks : List Task) (j : ℕ) (t : Task) → j < length tasks → t ≡ get_or tasks j t → AllByRecursion (λ t. (1 ≤ t.period)
+    × (t.offset < 2 ^ 32)) tasks
     → (1 ≤ t.period) × (t.offset < 2 ^ 32)
 period_at [] j t within at each = absurd (omega (arith, within))
 period_at (u ∷ tasks) zero t within at each = subst (λ (v : Task). (1 ≤ v.period) × (v.offset < 2 ^ 32)) (sym at) each.0

@@ -55,7 +55,8 @@ rows_pass : (d : ℕ) (rows : List Row) → DividesRows d rows → list_all (row
 rows_pass d [] all = refl
 rows_pass d (r ∷ rows) all =
     and_from (row_test d r) (list_all (row_test d) rows)
-    (and_from (eqb (r.start % d) 0) (eqb (r.end % d) 0) (eq-eqb (r.start % d) 0 (mod-eq-zero_of_dvd d all.0.0)) (eq-eqb (r.end % d) 0 (mod-eq-zero_of_dvd d all.0.1)))
+    (and_from (eqb (r.start % d) 0) (eqb (r.end % d) 0) (eq-eqb (r.start % d) 0 (mod-eq-zero_of_dvd d all.0.0))
+    (eq-eqb (r.end % d) 0 (mod-eq-zero_of_dvd d all.0.1)))
     (rows_pass d rows all.1)
 
 -- the test by which a step is found

@@ -1,5 +1,6 @@
 -- Sets that words draw.
-use Rattle.std.proofs.Common.{◌≡◌, ℕ, zero, suc, ◌+◌, ◌/◌, ◌%◌, ◌*◌, ◌^◌, ◌<◌, ◌≤◌, Bool, true, false, List, [], ◌∷◌, ◌++◌, length, get_or, drop, refl, sym, ◌∙◌, ap, subst, arith, length-append, div-add-mod', mod-lt, inl, inr}
+use Rattle.std.proofs.Common.{◌≡◌, ℕ, zero, suc, ◌+◌, ◌/◌, ◌%◌, ◌*◌, ◌^◌, ◌<◌, ◌≤◌, Bool, true, false, List, [], ◌∷◌, ◌++◌, length, get_or, drop}
+use Rattle.std.proofs.Common.{refl, sym, ◌∙◌, ap, subst, arith, length-append, div-add-mod', mod-lt, inl, inr}
 use Rattle.std.specs.Int.{◌∣◌}
 use Rattle.std.specs.Prelude.{nat_le}
 use Rattle.std.proofs.lemmas.Bool.{cases_lt, leb-true, le-leb, lt-leb}
@@ -82,7 +83,16 @@ pub record IsDrawn (tasks : List Task) : Type 0 where
 
 pub IsDrawn-none : IsDrawn []
 IsDrawn-none = record {
-  lawful = record { some_processors = omega arith; few_processors = omega arith; some_horizon = omega arith; horizon_fits = omega arith; few_tasks = omega arith; each = tt; names_differ = tt };
+  lawful = record {
+    some_processors = omega arith;
+    few_processors = omega arith;
+    some_horizon = omega arith;
+    horizon_fits = omega arith;
+    few_tasks =
+        omega arith;
+    each = tt;
+    names_differ = tt;
+  };
   divide = tt;
   numbered = tt;
   within = omega arith;
@@ -102,7 +112,8 @@ room_for tasks h = let w = h.within in let c = h.counted in omega arith
 pub next_is_free : (tasks : List Task) → IsDrawn tasks → IsFree (name_of_number (length tasks)) tasks
 next_is_free tasks h =
     let few = room_for tasks h in
-    AllByRecursion-by _ _ tasks (λ t named same. names_apart named.0 (length tasks) (omega (arith, named.1)) (omega arith) (omega (arith, named.1)) (sym named.2 ∙ same)) h.numbered
+    AllByRecursion-by _ _ tasks (λ t named same. names_apart named.0 (length tasks) (omega (arith, named.1)) (omega arith) (omega (arith, named.1))
+    (sym named.2 ∙ same)) h.numbered
 
 -- a work that a word chooses is within its period
 pub work_within : (v period : ℕ) → 1 ≤ period → 1 + v % period ≤ period
@@ -113,7 +124,14 @@ task_lawful k w v fits =
     let p = period_is w in
     let some = p.some in
     let small = p.small in
-    record { name = name_lawful k fits; some_work = omega arith; work_fits = work_within v (period_by w) some; period_fits = omega arith; offset_fits = omega arith }
+    record {
+      name = name_lawful k fits;
+      some_work = omega arith;
+      work_fits = work_within v (period_by w) some;
+      period_fits = omega arith;
+      offset_fits =
+          omega arith;
+    }
 
 -- what goes into a number goes into it at least once
 quotient : (q r period n : ℕ) → period * q + r ≡ n → r < period → period ≤ n → 1 ≤ q
@@ -122,10 +140,12 @@ quotient (suc q) r period n is less within = omega arith
 
 -- each task has some weight
 some_weight : (work period : ℕ) → 1 ≤ work → 1 ≤ period → period ≤ 60 → 1 ≤ work * 60 / period
-some_weight work period some_work some_period small = quotient (work * 60 / period) (work * 60 % period) period (work * 60) (omega arith) (omega arith) (omega arith)
+some_weight work period some_work some_period small = quotient (work * 60 / period) (work * 60 % period) period (work * 60) (omega arith) (omega arith)
+    (omega arith)
 
 -- one task more
-IsDrawn-push : (tasks : List Task) (w v : ℕ) → IsDrawn tasks → total_of 60 tasks + rate_of 60 (task_by (length tasks) w v) ≤ 240 → IsDrawn (tasks ++ task_by (length tasks) w v ∷ [])
+IsDrawn-push : (tasks : List Task) (w v : ℕ) → IsDrawn tasks → total_of 60 tasks + rate_of 60 (task_by (length tasks) w v) ≤ 240 →
+    IsDrawn (tasks ++ task_by (length tasks) w v ∷ [])
 IsDrawn-push tasks w v h fits =
     let t = task_by (length tasks) w v in
     let few = room_for tasks h in
@@ -139,7 +159,8 @@ IsDrawn-push tasks w v h fits =
     record {
       lawful = IsLawful-push (set_of tasks) t h.lawful few (task_lawful (length tasks) w v (omega arith)) (next_is_free tasks h);
       divide = AllByRecursion-push _ tasks t h.divide p.divides;
-      numbered = AllByRecursion-push _ tasks t (AllByRecursion-by _ _ tasks (λ s named. (named.0, omega (arith, named.1), named.2)) h.numbered) (length tasks, omega arith, refl);
+      numbered = AllByRecursion-push _ tasks t (AllByRecursion-by _ _ tasks (λ s named. (named.0, omega (arith, named.1), named.2)) h.numbered)
+          (length tasks, omega arith, refl);
       within = omega arith;
       counted = omega arith;
     }
@@ -247,7 +268,8 @@ HasDrawn-none words set processors horizon none = record {
   rest = rw none refl;
 }
 
-pub HasDrawn-added : (words : List ℕ) (j : ℕ) (set : SetContents) (load : ℕ) (t : Task) → 2 * j + 1 < length words → HasDrawn words j set load → t ≡ task_at_pair words j set.tasks
+pub HasDrawn-added : (words : List ℕ) (j : ℕ) (set : SetContents) (load : ℕ) (t : Task) → 2 * j + 1 < length words → HasDrawn words j set load →
+    t ≡ task_at_pair words j set.tasks
     → load + t.work * 60 / t.period ≤ 240 → HasDrawn words (j + 1) (record set { tasks = set.tasks ++ t ∷ [] }) (load + t.work * 60 / t.period)
 HasDrawn-added words j set load t within h is fits =
     let weight = h.weight in
@@ -257,10 +279,12 @@ HasDrawn-added words j set load t within h is fits =
       horizon = h.horizon;
       drawn = subst IsDrawn (ap (λ s. with_fitting set.tasks s) (sym is) ∙ added) (IsDrawn-more set.tasks _ _ h.drawn);
       weight = omega (arith, sum_by_push (rate_of 60) set.tasks t);
-      rest = ap (λ tasks. drawn_onto tasks (drop (2 * (j + 1)) words)) (sym added ∙ ap (λ s. with_fitting set.tasks s) is) ∙ sym (drawn_next words j set.tasks within) ∙ h.rest;
+      rest = ap (λ tasks. drawn_onto tasks (drop (2 * (j + 1)) words)) (sym added ∙ ap (λ s. with_fitting set.tasks s) is)
+          ∙ sym (drawn_next words j set.tasks within) ∙ h.rest;
     }
 
-pub HasDrawn-left : (words : List ℕ) (j : ℕ) (set : SetContents) (load : ℕ) (t : Task) → 2 * j + 1 < length words → HasDrawn words j set load → t ≡ task_at_pair words j set.tasks
+pub HasDrawn-left : (words : List ℕ) (j : ℕ) (set : SetContents) (load : ℕ) (t : Task) → 2 * j + 1 < length words → HasDrawn words j set load →
+    t ≡ task_at_pair words j set.tasks
     → 240 < load + t.work * 60 / t.period → HasDrawn words (j + 1) set load
 HasDrawn-left words j set load t within h is past =
     let weight = h.weight in
@@ -270,11 +294,13 @@ HasDrawn-left words j set load t within h is past =
       horizon = h.horizon;
       drawn = h.drawn;
       weight = weight;
-      rest = ap (λ tasks. drawn_onto tasks (drop (2 * (j + 1)) words)) (sym left ∙ ap (λ s. with_fitting set.tasks s) is) ∙ sym (drawn_next words j set.tasks within) ∙ h.rest;
+      rest = ap (λ tasks. drawn_onto tasks (drop (2 * (j + 1)) words)) (sym left ∙ ap (λ s. with_fitting set.tasks s) is)
+          ∙ sym (drawn_next words j set.tasks within) ∙ h.rest;
     }
 
 -- all pairs have drawn the set
-pub HasDrawn-all : (words : List ℕ) (j : ℕ) (set : SetContents) (load : ℕ) → length words ≤ 2 * j → HasDrawn words j set load → set ≡ set_of (drawn_onto [] words)
+pub HasDrawn-all : (words : List ℕ) (j : ℕ) (set : SetContents) (load : ℕ) → length words ≤ 2 * j → HasDrawn words j set load →
+    set ≡ set_of (drawn_onto [] words)
 HasDrawn-all words j set load all h =
     let tasks : set.tasks ≡ drawn_onto [] words = sym (ap (λ ws. drawn_onto set.tasks ws) (drop_all (2 * j) words all)) ∙ h.rest in
     ap (λ n. record { processors = n; horizon = set.horizon; tasks = set.tasks }) h.processors
@@ -283,7 +309,8 @@ HasDrawn-all words j set load all h =
 
 -- a task of these parts is the one that the pair chooses
 pub same_task : (words : List ℕ) (j : ℕ) (tasks : List Task) (name : List ℕ) (work period : ℕ) → name ≡ name_of_number (length tasks)
-    → work ≡ 1 + get_or words (2 * j + 1) 0 % period → period ≡ period_by (get_or words (2 * j) 0) → record { name = name; work = work; period = period; offset = 0 } ≡ task_at_pair words j tasks
+    → work ≡ 1 + get_or words (2 * j + 1) 0 % period → period ≡ period_by (get_or words (2 * j) 0) →
+    record { name = name; work = work; period = period; offset = 0 } ≡ task_at_pair words j tasks
 same_task words j tasks name work period name_is work_is period_is =
     ap (λ n. record { name = n; work = work; period = period; offset = 0 }) name_is
     ∙ ap (λ n. record { name = name_of_number (length tasks); work = n; period = period; offset = 0 }) work_is

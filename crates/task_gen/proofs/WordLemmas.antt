@@ -29,7 +29,8 @@ written_more words i w stream next all within whole told h =
     ∙ h
 
 -- all words are written
-pub written_all : (words : List ℕ) (i : ℕ) (stream : Stream) (all : List ℕ) → 128 ≤ i → length words ≡ 128 → take i words ++ answers (128 - i) stream ≡ all → words ≡ all
+pub written_all : (words : List ℕ) (i : ℕ) (stream : Stream) (all : List ℕ) → 128 ≤ i → length words ≡ 128 → take i words ++ answers (128 - i) stream ≡ all
+    → words ≡ all
 written_all words i stream all within whole h =
     let none : 128 - i ≡ 0 = omega arith in
     sym (append-nil words) ∙ ap (λ ws. ws ++ []) (sym (take_all i words (omega arith))) ∙ ap (λ n. take i words ++ answers n stream) (sym none) ∙ h

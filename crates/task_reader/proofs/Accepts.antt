@@ -1,5 +1,6 @@
 -- A tree that isn't refused writes its set, and the set is lawful.
-use Rattle.std.proofs.Common.{◌≡◌, ℕ, suc, pos, true, cond, List, [], map, Ok, Option, Some, None, is_some, unwrap_or, option_and_then, refl, sym, ◌∙◌, ap, subst, inl, inr}
+use Rattle.std.proofs.Common.{◌≡◌, ℕ, suc, pos, true, cond, List, [], map, Ok, Option, Some, None, is_some, unwrap_or, option_and_then, refl, sym}
+use Rattle.std.proofs.Common.{◌∙◌, ap, subst, inl, inr}
 use Rattle.std.proofs.lemmas.Bool.{cases_Bool}
 use Rattle.std.specs.List.{AllByRecursion}
 use Rattle.std.specs.Option.{option_or}
@@ -26,7 +27,8 @@ or_none None b h = (refl, h)
 or_none (Some x) b h = absurd (let e = h in cc)
 
 -- a key that is there, with a value of its kind
-integer_there : {R : Type 0} (o : Option Data) (r r' : R) → cond (is_some o) None (Some r) ≡ None → option_and_then (λ d. cond (is_some (as_integer d)) None (Some r')) o ≡ None
+integer_there : {R : Type 0} (o : Option Data) (r r' : R) → cond (is_some o) None (Some r) ≡ None → option_and_then (λ d. cond (is_some (as_integer d)) None
+    (Some r')) o ≡ None
     → o ≡ Some (integer (unwrap_or (option_and_then as_integer o) (pos 0)))
 integer_there None r r' h k = absurd (let e = h in cc)
 integer_there (Some (integer z)) r r' h k = refl
@@ -37,7 +39,8 @@ integer_there (Some (datetime z)) r r' h k = absurd (let e = k in cc)
 integer_there (Some (array z)) r r' h k = absurd (let e = k in cc)
 integer_there (Some (table z)) r r' h k = absurd (let e = k in cc)
 
-string_there : {R : Type 0} (o : Option Data) (r r' : R) → cond (is_some o) None (Some r) ≡ None → option_and_then (λ d. cond (is_some (as_str d)) None (Some r')) o ≡ None
+string_there : {R : Type 0} (o : Option Data) (r r' : R) → cond (is_some o) None (Some r) ≡ None → option_and_then (λ d. cond (is_some (as_str d)) None
+    (Some r')) o ≡ None
     → o ≡ Some (string (unwrap_or (option_and_then as_str o) []))
 string_there None r r' h k = absurd (let e = h in cc)
 string_there (Some (string z)) r r' h k = refl
@@ -50,7 +53,8 @@ string_there (Some (table z)) r r' h k = absurd (let e = k in cc)
 
 -- an offset that is missing, or there and a whole number
 offset_there : {R : Type 0} (o : Option Data) (r : R) → option_and_then (λ d. cond (is_some (as_integer d)) None (Some r)) o ≡ None
-    → unwrap_or (option_and_then as_integer o) (pos 0) ≡ pos (natural (unwrap_or (option_and_then as_integer o) (pos 0))) → WritesOffset o (natural (unwrap_or (option_and_then as_integer o) (pos 0)))
+    → unwrap_or (option_and_then as_integer o) (pos 0) ≡ pos (natural (unwrap_or (option_and_then as_integer o) (pos 0))) →
+    WritesOffset o (natural (unwrap_or (option_and_then as_integer o) (pos 0)))
 offset_there None r k whole = refl
 offset_there (Some (integer z)) r k whole = ap integer whole
 offset_there (Some (string z)) r k whole = absurd (let e = k in cc)
@@ -67,7 +71,8 @@ pub record KeysFit (i : ℕ) (ds : Items) : Type 0 where
   pub kinds : first_refusal (λ (v : Placed). wrong_at v.place v.value) (placed_from i ds) ≡ None
 
 -- the table of a task writes it
-task_written : (i : ℕ) (ms : Members) → unknown_at (task_place i) (table ms) ≡ None → missing_at (task_place i) (table ms) ≡ None → wrong_at (task_place i) (table ms) ≡ None
+task_written : (i : ℕ) (ms : Members) → unknown_at (task_place i) (table ms) ≡ None → missing_at (task_place i) (table ms) ≡ None → wrong_at (task_place i)
+    (table ms) ≡ None
     → IsGood (written_in ms) → WritesTask ms (task_of (written_in ms))
 task_written i ms u m w good =
     let (mn, mr) = or_none (missing_key (task_place i) ms key.Name) _ m in
@@ -167,13 +172,18 @@ pub record Accepts (top : Members) (s : SetContents) : Type 0 where
 accepted : (top : Members) → refusal_of top ≡ None → Accepts top (set_of top)
 accepted top h =
     let none = unrefused top h in
-    record { writes = writes_set top none; lawful = lawful_set (number_at key.Processors top) (number_at key.Horizon top) _ none.processors none.horizon none.few none.names none.apart none.periods none.works none.offsets }
+    record {
+      writes = writes_set top none;
+      lawful = lawful_set (number_at key.Processors top) (number_at key.Horizon top) _ none.processors none.horizon
+          none.few none.names none.apart none.periods none.works none.offsets;
+    }
 
 answered : (top : Members) (o : Option ReadSet) (s : SetContents) → o ≡ refusal_of top → answer_of top o ≡ Ok s → Accepts top s
 answered top None s same h = subst (Accepts top) (let e = h in cc) (accepted top (sym same))
 answered top (Some r) s same h = absurd (let e = h in cc)
 
-document_accepted : (bytes : List ℕ) (s : SetContents) (o : Option Members) → o ≡ parse_document bytes → document_read_from o ≡ Ok s → (top : Members) × (parse_document bytes ≡ Some top) × Accepts top s
+document_accepted : (bytes : List ℕ) (s : SetContents) (o : Option Members) → o ≡ parse_document bytes → document_read_from o ≡ Ok s → (top : Members)
+    × (parse_document bytes ≡ Some top) × Accepts top s
 document_accepted bytes s None same h = absurd (let e = h in cc)
 document_accepted bytes s (Some top) same h = (top, sym same, answered top (refusal_of top) s refl h)
 

@@ -1,5 +1,6 @@
 -- What the refusals for numbers and names leave of the tasks: a lawful set.
-use Rattle.std.proofs.Common.{◌≡◌, ◌≢◌, ℕ, suc, ◌+◌, ◌-◌, ◌^◌, ◌≤◌, ◌<◌, nat_le, ℤ, pos, negsuc, Bool, true, false, not, cond, List, [], ◌∷◌, ◌++◌, length, map, take, drop, get_or, Option, Some, None, option_map, refl, sym, ◌∙◌, ap, inl, inr, arith, append_assoc}
+use Rattle.std.proofs.Common.{◌≡◌, ◌≢◌, ℕ, suc, ◌+◌, ◌-◌, ◌^◌, ◌≤◌, ◌<◌, nat_le, ℤ, pos, negsuc, Bool, true, false, not, cond, List, [], ◌∷◌, ◌++◌}
+use Rattle.std.proofs.Common.{length, map, take, drop, get_or, Option, Some, None, option_map, refl, sym, ◌∙◌, ap, inl, inr, arith, append_assoc}
 use Rattle.std.proofs.lemmas.Bool.{cases_Bool, false≢true, and_parts}
 use Rattle.std.proofs.lemmas.Bool.Decides.{nat_tests}
 use Rattle.std.proofs.lemmas.Iterator.Adapters.{position_from-zero}
@@ -20,7 +21,8 @@ none-option_map f (Some x) h = absurd (let e = h in cc)
 
 none_passes : {A : Type 0} (p : A → Bool) (i : ℕ) (xs : List A) → position_from p i xs ≡ None → AllByRecursion (λ x. p x ≡ false) xs
 none_passes p i [] h = tt
-none_passes p i (x ∷ xs) h = elim (cases_Bool (p x)) [ inl passes ↦ absurd (let e = rw passes at h in cc) | inr fails ↦ (fails, none_passes p (i + 1) xs (rw fails at h)) ]
+none_passes p i (x ∷ xs) h = elim (cases_Bool (p x))
+    [ inl passes ↦ absurd (let e = rw passes at h in cc) | inr fails ↦ (fails, none_passes p (i + 1) xs (rw fails at h)) ]
 
 -- where the test passes nowhere, it fails everywhere
 pub position-none : {A : Type 0} (p : A → Bool) (xs : List A) → position p xs ≡ None → AllByRecursion (λ x. p x ≡ false) xs
@@ -74,7 +76,8 @@ good_task t n p w o =
       offset = offset.whole;
     }
 
-all_good : (ts : List WrittenTask) → AllByRecursion (λ t. has_bad_name t ≡ false) ts → AllByRecursion (λ t. has_bad_period t ≡ false) ts → AllByRecursion (λ t. has_bad_work t ≡ false) ts
+all_good : (ts : List WrittenTask) → AllByRecursion (λ t. has_bad_name t ≡ false) ts → AllByRecursion (λ t. has_bad_period t ≡ false) ts →
+    AllByRecursion (λ t. has_bad_work t ≡ false) ts
     → AllByRecursion (λ t. has_bad_offset t ≡ false) ts → AllByRecursion IsGood ts
 all_good [] n p w o = tt
 all_good (t ∷ ts) n p w o = (good_task t n.0 p.0 w.0 o.0, all_good ts n.1 p.1 w.1 o.1)
@@ -92,7 +95,8 @@ lawful_tasks [] h = tt
 lawful_tasks (t ∷ ts) h = (h.0.lawful, lawful_tasks ts h.1)
 
 -- one task of several has another name
-other_name : (before : List WrittenTask) (e : WrittenTask) (after : List WrittenTask) (t : WrittenTask) → is_repeated (before ++ e ∷ after) t ≡ false → t.name ≢ e.name
+other_name : (before : List WrittenTask) (e : WrittenTask) (after : List WrittenTask) (t : WrittenTask) → is_repeated (before ++ e ∷ after) t ≡ false →
+    t.name ≢ e.name
 other_name [] e after t h same =
     elim (cases_Bool (bytes_eq e.name t.name)) [
       | inl equal ↦ absurd (let f = rw equal at h in cc)
@@ -105,7 +109,8 @@ other_name (b ∷ before) e after t h same =
     ]
 
 -- no later task repeats the name of one of the earlier ones
-free_later : (before : List WrittenTask) (e : WrittenTask) (after : List WrittenTask) (i : ℕ) (ts : List WrittenTask) → first_repeated (before ++ e ∷ after) i ts ≡ None → IsFree e.name (map task_of ts)
+free_later : (before : List WrittenTask) (e : WrittenTask) (after : List WrittenTask) (i : ℕ) (ts : List WrittenTask) → first_repeated (before ++ e ∷ after)
+    i ts ≡ None → IsFree e.name (map task_of ts)
 free_later before e after i [] h = tt
 free_later before e after i (t ∷ ts) h =
     elim (cases_Bool (is_repeated (before ++ e ∷ after) t)) [
@@ -169,7 +174,8 @@ free_at [] t after h = tt
 free_at (b ∷ before) t after h = ((λ same. not_named b.name before t after h.0 (sym same)), free_at before t after h.1)
 
 -- a list of tasks round one of them
-pub tasks_around : (xs : List WrittenTask) (i : ℕ) (e : WrittenTask) → i < length xs → e ≡ get_or xs i e → map task_of xs ≡ map task_of (take i xs) ++ task_of e ∷ map task_of (drop (i + 1) xs)
+pub tasks_around : (xs : List WrittenTask) (i : ℕ) (e : WrittenTask) → i < length xs → e ≡ get_or xs i e → map task_of xs ≡ map task_of
+    (take i xs) ++ task_of e ∷ map task_of (drop (i + 1) xs)
 tasks_around xs i e within is =
     let here : drop i xs ≡ e ∷ drop (i + 1) xs = drop_more xs i e within ∙ ap (λ x. x ∷ drop (i + 1) xs) (sym is) in
     sym (ap (map task_of) (take-append-drop i xs)) ∙ (map-append task_of (take i xs) (drop i xs) ∙ ap (λ r. map task_of (take i xs) ++ map task_of r) here)

@@ -1,5 +1,6 @@
 -- Lemmas on the refusals for keys.
-use Rattle.std.proofs.Common.{◌≡◌, ℕ, suc, ◌+◌, ◌<◌, ◌≤◌, length, get_or, drop, add-one, ap₂, Ordering, Less, Equal, Greater, nat_cmp, is_eq, IsSome, true, false, List, [], ◌∷◌, Option, Some, None, String, Global, string_bytes, refl, sym, ◌∙◌, ap, subst, inl, inr}
+use Rattle.std.proofs.Common.{◌≡◌, ℕ, suc, ◌+◌, ◌<◌, ◌≤◌, length, get_or, drop, add-one, ap₂, Ordering, Less, Equal, Greater, nat_cmp, is_eq, IsSome}
+use Rattle.std.proofs.Common.{true, false, List, [], ◌∷◌, Option, Some, None, String, Global, string_bytes, refl, sym, ◌∙◌, ap, subst, inl, inr}
 use Rattle.std.proofs.lemmas.List.{at_drop_more, at_drop_all}
 use Rattle.std.proofs.lemmas.Bool.{cases_Bool, false≢true}
 use Rattle.std.proofs.lemmas.Cmp.{nat_list_cmp_total, tied_itself}
@@ -26,7 +27,8 @@ use Rattle.task_reader.specs.declared.members.KeyFlaw.TheVariants as flaw
 use Rattle.task_reader.specs.Writes.{HasOnlyKnown}
 
 -- where the first has no refusal, it is that of the others
-pub first_refusal-none : {A : Type 0} (refusal : A → Option ReadSet) (x : A) (xs : List A) → refusal x ≡ None → first_refusal refusal (x ∷ xs) ≡ first_refusal refusal xs
+pub first_refusal-none : {A : Type 0} (refusal : A → Option ReadSet) (x : A) (xs : List A) → refusal x ≡ None →
+    first_refusal refusal (x ∷ xs) ≡ first_refusal refusal xs
 first_refusal-none refusal x xs none = rw none refl
 
 -- a key before another, and before the rest, comes before both
@@ -36,7 +38,8 @@ lesser-both k l (Some m) order rest =
     elim (cases_Bool (is_lt (slice_cmp nat_cmp l m))) [ inl here ↦ rw (here, order) refl | inr later ↦ rw later rest ]
 
 -- a key before all entries comes before the least unknown one
-lesser-least_unknown : (p : Place) (k : String Global) (es : List (String Global × Value)) → AllByRecursion (λ l. string_cmp k l ≡ Less) (keys_of es) → lesser (string_bytes k) (least_unknown p (members_view es)) ≡ string_bytes k
+lesser-least_unknown : (p : Place) (k : String Global) (es : List (String Global × Value)) → AllByRecursion (λ l. string_cmp k l ≡ Less) (keys_of es) →
+    lesser (string_bytes k) (least_unknown p (members_view es)) ≡ string_bytes k
 lesser-least_unknown p k [] before = refl
 lesser-least_unknown p k (e ∷ es) before =
     let rest = lesser-least_unknown p k es before.1 in
@@ -46,7 +49,8 @@ lesser-least_unknown p k (e ∷ es) before =
     ]
 
 -- of entries that ascend and are what is left of all, an unknown first key is the least of all
-pub least_unknown-first : (p : Place) (all : Members) (left : List (String Global × Value)) (e : String Global × Value) (rest : List (String Global × Value)) → left ≡ e ∷ rest
+pub least_unknown-first : (p : Place) (all : Members) (left : List (String Global × Value)) (e : String Global × Value)
+    (rest : List (String Global × Value)) → left ≡ e ∷ rest
     → IsStrictlySortedBy string_cmp (keys_of left) → least_unknown p (members_view left) ≡ least_unknown p all → is_known p (string_bytes e.0) ≡ false
     → least_unknown p all ≡ Some (string_bytes e.0)
 unfolding IsStrictlySortedBy
@@ -56,7 +60,8 @@ least_unknown-first p all left e rest split sorted same other =
     sym same ∙ ap (λ es. least_unknown p (members_view es)) split ∙ found
 
 -- a known first key is passed over
-pub least_unknown-known : (p : Place) (all : Members) (left : List (String Global × Value)) (e : String Global × Value) (rest : List (String Global × Value)) → left ≡ e ∷ rest
+pub least_unknown-known : (p : Place) (all : Members) (left : List (String Global × Value)) (e : String Global × Value)
+    (rest : List (String Global × Value)) → left ≡ e ∷ rest
     → IsStrictlySortedBy string_cmp (keys_of left) → least_unknown p (members_view left) ≡ least_unknown p all → is_known p (string_bytes e.0) ≡ true
     → IsStrictlySortedBy string_cmp (keys_of rest) × (least_unknown p (members_view rest) ≡ least_unknown p all)
 unfolding IsStrictlySortedBy
@@ -82,7 +87,8 @@ known_from_none p (member l d ms) none text there =
       | inr other ↦ absurd (let e = rw other at none in cc)
     ]
 
-there_later : (text l : List ℕ) (d : Data) (ms : Members) (o : Ordering) → IsSome (get_member text ms) → IsSome (match_ordering o (get_member text ms) (Some d) (get_member text ms))
+there_later : (text l : List ℕ) (d : Data) (ms : Members) (o : Ordering) → IsSome (get_member text ms) → IsSome (match_ordering o (get_member text ms)
+    (Some d) (get_member text ms))
 there_later text l d ms Less there = there
 there_later text l d ms Equal there = refl
 there_later text l d ms Greater there = there
@@ -97,12 +103,14 @@ none_from_known p (member l d ms) only =
 -- ---- one after the other
 
 -- what is found at place i is the first refusal from there on
-pub first_found : {A : Type 0} (refusal : A → Option ReadSet) (xs : List A) (i : ℕ) (d : A) (found : Option ReadSet) (r : ReadSet) → i < length xs → found ≡ refusal (get_or xs i d) → found ≡ Some r
+pub first_found : {A : Type 0} (refusal : A → Option ReadSet) (xs : List A) (i : ℕ) (d : A) (found : Option ReadSet) (r : ReadSet) → i < length xs →
+    found ≡ refusal (get_or xs i d) → found ≡ Some r
     → first_refusal refusal (drop i xs) ≡ Some r
 first_found refusal xs i d found r within is some =
     at_drop_more (first_refusal refusal) xs i d within ∙ ap (λ o. option_or o (first_refusal refusal (drop (i + 1) xs))) (sym is ∙ some)
 
-pub first_more : {A : Type 0} (refusal : A → Option ReadSet) (xs : List A) (i : ℕ) (d : A) (found : Option ReadSet) → i < length xs → found ≡ refusal (get_or xs i d) → found ≡ None
+pub first_more : {A : Type 0} (refusal : A → Option ReadSet) (xs : List A) (i : ℕ) (d : A) (found : Option ReadSet) → i < length xs →
+    found ≡ refusal (get_or xs i d) → found ≡ None
     → first_refusal refusal (drop i xs) ≡ first_refusal refusal (drop (i + 1) xs)
 first_more refusal xs i d found within is none =
     at_drop_more (first_refusal refusal) xs i d within ∙ first_refusal-none refusal (get_or xs i d) (drop (i + 1) xs) (sym is ∙ none)
@@ -115,21 +123,26 @@ abbrev from_task : (Placed → Option ReadSet) → ℕ → List Value → Option
 from_task refusal i vs = first_refusal refusal (placed_from i (items_view vs))
 
 -- the same of the tasks of the document
-pub task_found : (at : Place → Data → Option ReadSet) (vs : List Value) (i : ℕ) (v : Value) (p : Place) (found : Option ReadSet) (r : ReadSet) → i < length vs → v ≡ get_or vs i v → p ≡ task_place i
+pub task_found : (at : Place → Data → Option ReadSet) (vs : List Value) (i : ℕ) (v : Value) (p : Place) (found : Option ReadSet) (r : ReadSet) →
+    i < length vs → v ≡ get_or vs i v → p ≡ task_place i
     → found ≡ at p (view v) → found ≡ Some r → from_task (λ (w : Placed). at w.place w.value) i (drop i vs) ≡ Some r
 task_found at vs i v p found r within here place is some =
     at_drop_more (from_task (λ (w : Placed). at w.place w.value) i) vs i v within
-    ∙ ap (λ o. option_or o (from_task (λ (w : Placed). at w.place w.value) (suc i) (drop (i + 1) vs))) (ap₂ (λ q w. at q (view w)) (sym place) (sym here) ∙ sym is ∙ some)
+    ∙ ap (λ o. option_or o (from_task (λ (w : Placed). at w.place w.value) (suc i) (drop (i + 1) vs))) (ap₂ (λ q w. at q (view w)) (sym place) (sym here)
+    ∙ sym is ∙ some)
 
-pub task_more : (at : Place → Data → Option ReadSet) (vs : List Value) (i : ℕ) (v : Value) (p : Place) (found : Option ReadSet) → i < length vs → v ≡ get_or vs i v → p ≡ task_place i
+pub task_more : (at : Place → Data → Option ReadSet) (vs : List Value) (i : ℕ) (v : Value) (p : Place) (found : Option ReadSet) → i < length vs →
+    v ≡ get_or vs i v → p ≡ task_place i
     → found ≡ at p (view v) → found ≡ None
     → from_task (λ (w : Placed). at w.place w.value) i (drop i vs) ≡ from_task (λ (w : Placed). at w.place w.value) (i + 1) (drop (i + 1) vs)
 task_more at vs i v p found within here place is none =
     at_drop_more (from_task (λ (w : Placed). at w.place w.value) i) vs i v within
-    ∙ ap (λ o. option_or o (from_task (λ (w : Placed). at w.place w.value) (suc i) (drop (i + 1) vs))) (ap₂ (λ q w. at q (view w)) (sym place) (sym here) ∙ sym is ∙ none)
+    ∙ ap (λ o. option_or o (from_task (λ (w : Placed). at w.place w.value) (suc i) (drop (i + 1) vs))) (ap₂ (λ q w. at q (view w)) (sym place) (sym here)
+    ∙ sym is ∙ none)
     ∙ ap (λ n. from_task (λ (w : Placed). at w.place w.value) n (drop (i + 1) vs)) (sym (add-one i))
 
-pub task_past : (at : Place → Data → Option ReadSet) (vs : List Value) (i : ℕ) → length vs ≤ i → from_task (λ (w : Placed). at w.place w.value) i (drop i vs) ≡ None
+pub task_past : (at : Place → Data → Option ReadSet) (vs : List Value) (i : ℕ) → length vs ≤ i → from_task (λ (w : Placed). at w.place w.value) i
+    (drop i vs) ≡ None
 task_past at vs i past = at_drop_all (from_task (λ (w : Placed). at w.place w.value) i) vs i past
 
 -- what a table has of a flaw is that of its keys, in their order

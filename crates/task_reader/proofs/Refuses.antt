@@ -1,5 +1,6 @@
 -- A tree that writes a lawful set isn't refused, and is read as that set.
-use Rattle.std.proofs.Common.{◌≡◌, ℕ, suc, ◌-◌, ◌^◌, ◌≤◌, pos, true, false, not, cond, nat_le, List, [], ◌∷◌, ◌++◌, length, map, Ok, Option, Some, None, is_some, unwrap_or, option_and_then, refl, sym, ap, subst, inl, inr, arith}
+use Rattle.std.proofs.Common.{◌≡◌, ℕ, suc, ◌-◌, ◌^◌, ◌≤◌, pos, true, false, not, cond, nat_le, List, [], ◌∷◌, ◌++◌, length, map, Ok, Option, Some}
+use Rattle.std.proofs.Common.{None, is_some, unwrap_or, option_and_then, refl, sym, ap, subst, inl, inr, arith}
 use Rattle.std.proofs.lemmas.Bool.{cases_Bool}
 use Rattle.std.proofs.lemmas.Bool.Decides.{nat_tests}
 use Rattle.std.proofs.lemmas.List.{map-append, length-map}
@@ -23,7 +24,8 @@ use Rattle.task_reader.specs.Writes.{WritesOffset, WritesTask, WritesTasks, Writ
 use Rattle.task_reader.proofs.MembersLemmas.{none_from_known}
 use Rattle.task_reader.proofs.LimitsLemmas.{none-position}
 use Rattle.task_reader.proofs.Accepts.{KeysFit}
-use Rattle.task_reader.proofs.Parts.{unknown, missing, wrong, has_bad_name, has_bad_period, has_bad_work, has_bad_offset, bad_name, bad_period, bad_work, bad_offset}
+use Rattle.task_reader.proofs.Parts.{unknown, missing, wrong, has_bad_name, has_bad_period, has_bad_work, has_bad_offset, bad_name, bad_period}
+use Rattle.task_reader.proofs.Parts.{bad_work, bad_offset}
 
 -- a task as it is written
 abbrev pub written : Task → WrittenTask
@@ -33,7 +35,8 @@ offset_written : (o : Option Data) (offset : ℕ) → WritesOffset o offset → 
 offset_written None offset h = ap pos (sym h)
 offset_written (Some d) offset h = rw h refl
 
-offset_kind : {R : Type 0} (o : Option Data) (offset : ℕ) (r : R) → WritesOffset o offset → option_and_then (λ d. cond (is_some (as_integer d)) None (Some r)) o ≡ None
+offset_kind : {R : Type 0} (o : Option Data) (offset : ℕ) (r : R) → WritesOffset o offset → option_and_then (λ d. cond (is_some (as_integer d)) None
+    (Some r)) o ≡ None
 offset_kind None offset r h = refl
 offset_kind (Some d) offset r h = rw h refl
 
@@ -65,20 +68,31 @@ keys_fit i (item d ds) (t ∷ ts) h =
     let rest = keys_fit (suc i) ds ts h.1 in
     let known : unknown_at (task_place i) (table ms) ≡ None = rw (none_from_known (task_place i) ms task.only) refl in
     let there : missing_at (task_place i) (table ms) ≡ None = rw (task.name, task.work, task.period) refl in
-    let kinds : wrong_at (task_place i) (table ms) ≡ None = rw (task.name, task.work, task.period, offset_kind _ t.offset (WrongKind (task_place i) key.Offset) task.offset) refl in
-    subst (λ v. KeysFit i (item v ds)) (sym is) (record { known = none_or _ _ known rest.known; there = none_or _ _ there rest.there; kinds = none_or _ _ kinds rest.kinds })
+    let kinds : wrong_at (task_place i) (table ms) ≡ None = rw (
+      task.name,
+      task.work,
+      task.period,
+      offset_kind _ t.offset (WrongKind (task_place i)
+          key.Offset) task.offset,
+    ) refl in
+    subst (λ v. KeysFit i (item v ds)) (sym is)
+    (record { known = none_or _ _ known rest.known; there = none_or _ _ there rest.there; kinds = none_or _ _ kinds rest.kinds })
 
 -- no name is an earlier one
-not_repeated : (done : List Task) (t : Task) (ts : List Task) → AllByRecursion (λ (d : Task). IsFree d.name (t ∷ ts)) done → is_repeated (map written done) (written t) ≡ false
+not_repeated : (done : List Task) (t : Task) (ts : List Task) → AllByRecursion (λ (d : Task). IsFree d.name (t ∷ ts)) done → is_repeated (map written done)
+    (written t) ≡ false
 not_repeated [] t ts h = refl
 not_repeated (d ∷ done) t ts h =
-    elim (cases_Bool (bytes_eq d.name t.name)) [ inl same ↦ absurd (h.0.0 (sym ((bytes_eq-Decides d.name t.name).0 same))) | inr other ↦ rw other (not_repeated done t ts h.1) ]
+    elim (cases_Bool (bytes_eq d.name t.name))
+    [ inl same ↦ absurd (h.0.0 (sym ((bytes_eq-Decides d.name t.name).0 same))) | inr other ↦ rw other (not_repeated done t ts h.1) ]
 
-rest_free : (done : List Task) (t : Task) (ts : List Task) → AllByRecursion (λ (d : Task). IsFree d.name (t ∷ ts)) done → IsFree t.name ts → AllByRecursion (λ (d : Task). IsFree d.name ts) (done ++ t ∷ [])
+rest_free : (done : List Task) (t : Task) (ts : List Task) → AllByRecursion (λ (d : Task). IsFree d.name (t ∷ ts)) done → IsFree t.name ts →
+    AllByRecursion (λ (d : Task). IsFree d.name ts) (done ++ t ∷ [])
 rest_free [] t ts h free = (free, tt)
 rest_free (d ∷ done) t ts h free = (h.0.1, rest_free done t ts h.1 free)
 
-pub none_repeated : (done ts : List Task) (i : ℕ) → AllByRecursion (λ (d : Task). IsFree d.name ts) done → NamesDiffer ts → first_repeated (map written done) i (map written ts) ≡ None
+pub none_repeated : (done ts : List Task) (i : ℕ) → AllByRecursion (λ (d : Task). IsFree d.name ts) done → NamesDiffer ts →
+    first_repeated (map written done) i (map written ts) ≡ None
 none_repeated done [] i h differ = refl
 none_repeated done (t ∷ ts) i h differ =
     let next : map written done ++ written t ∷ [] ≡ map written (done ++ t ∷ []) = sym (map-append written done (t ∷ [])) in
@@ -112,7 +126,8 @@ array_items : (o : Option Data) (ts : List Task) → WritesArray o ts → Writes
 array_items None ts h = subst (WritesTasks no_items) (sym h) tt
 array_items (Some d) ts h = let (ds, is, tasks) = h in rw is tasks
 
-array_kind : {R : Type 0} (o : Option Data) (ts : List Task) (r : R) → WritesArray o ts → option_and_then (λ d. cond (is_some (as_array d)) None (Some r)) o ≡ None
+array_kind : {R : Type 0} (o : Option Data) (ts : List Task) (r : R) → WritesArray o ts → option_and_then (λ d. cond (is_some (as_array d)) None (Some r))
+    o ≡ None
 array_kind None ts r h = refl
 array_kind (Some d) ts r h = rw h.1 refl
 
@@ -127,11 +142,13 @@ no_key_refused top s h =
 
 -- none of the refusals for numbers and names comes
 no_limit_passed : (s : SetContents) → IsLawful s → (ts : List WrittenTask) → ts ≡ map written s.tasks
-    → (bad_processors (pos s.processors) ≡ None) × (bad_horizon (pos s.horizon) ≡ None) × (too_many ts ≡ None) × (bad_name ts ≡ None) × (same_name ts ≡ None) × (bad_period ts ≡ None) × (bad_work ts ≡ None) × (bad_offset ts ≡ None)
+    → (bad_processors (pos s.processors) ≡ None) × (bad_horizon (pos s.horizon) ≡ None) × (too_many ts ≡ None) × (bad_name ts ≡ None)
+    × (same_name ts ≡ None) × (bad_period ts ≡ None) × (bad_work ts ≡ None) × (bad_offset ts ≡ None)
 no_limit_passed s lawful ts is =
     let fit : LimitsFit ts = subst LimitsFit (sym is) (limits_fit s.tasks lawful.each) in
     let processors : is_within 1 32 (pos s.processors) ≡ true = within_from 1 32 s.processors lawful.some_processors lawful.few_processors in
-    let horizon : is_within 1 (2 ^ 32 - 1) (pos s.horizon) ≡ true = within_from 1 (2 ^ 32 - 1) s.horizon lawful.some_horizon (omega (arith, lawful.horizon_fits)) in
+    let horizon : is_within 1 (2 ^ 32 - 1) (pos s.horizon) ≡ true = within_from 1 (2 ^ 32 - 1) s.horizon lawful.some_horizon
+    (omega (arith, lawful.horizon_fits)) in
     let short : length ts ≤ 256 = rw (is, length-map) lawful.few_tasks in
     let few : nat_le (length ts) 256 ≡ true = grind (arith, nat_tests) in
     let apart : first_repeated [] 0 ts ≡ None = rw is (none_repeated [] s.tasks 0 tt lawful.names_differ) in (
@@ -154,10 +171,12 @@ writes_read top s h lawful =
     let (known, there, kinds) = no_key_refused top s h in
     let (processors, horizon, few, names, apart, periods, works, offsets) = no_limit_passed s lawful (written_tasks (tasks_of top)) tasks in
     let late = none_or _ _ names (none_or _ _ apart (none_or _ _ periods (none_or _ _ works (none_or _ _ offsets refl)))) in
-    let numbers = none_or (bad_processors (number_at key.Processors top)) _ (rw p processors) (none_or (bad_horizon (number_at key.Horizon top)) _ (rw q horizon) (none_or _ _ few late)) in
+    let numbers = none_or (bad_processors (number_at key.Processors top)) _ (rw p processors) (none_or (bad_horizon (number_at key.Horizon top)) _
+    (rw q horizon) (none_or _ _ few late)) in
     (none_or _ _ known (none_or _ _ there (none_or _ _ kinds numbers)), rw (p, q, tasks, tasks_again s.tasks) refl)
 
 -- bytes of a document that writes a lawful set are read as the set
-pub writes_reading : (bytes : List ℕ) (top : Members) (s : SetContents) → is_utf8 bytes ≡ true → parse_document bytes ≡ Some top → Writes top s → IsLawful s → set_read_from bytes ≡ Ok s
+pub writes_reading : (bytes : List ℕ) (top : Members) (s : SetContents) → is_utf8 bytes ≡ true → parse_document bytes ≡ Some top → Writes top s →
+    IsLawful s → set_read_from bytes ≡ Ok s
 unfolding set_read_from
 writes_reading bytes top s text tree h lawful = let (none, same) = writes_read top s h lawful in rw (text, tree, none, same) refl

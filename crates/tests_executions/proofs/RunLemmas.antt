@@ -1,5 +1,6 @@
 -- Gates and jobs that are made one after the other, and what a run leaves in the places of the jobs.
-use Rattle.std.proofs.Common.{◌≡◌, ℕ, zero, suc, ◌+◌, ◌*◌, ◌<◌, ◌≤◌, List, [], ◌∷◌, ◌++◌, Option, None, Some, Result, Ok, Err, IfOk, length, set, refl, sym, ap, ◌∙◌, subst, arith, length-append}
+use Rattle.std.proofs.Common.{◌≡◌, ℕ, zero, suc, ◌+◌, ◌*◌, ◌<◌, ◌≤◌, List, [], ◌∷◌, ◌++◌, Option, None, Some, Result, Ok, Err, IfOk, length, set}
+use Rattle.std.proofs.Common.{refl, sym, ap, ◌∙◌, subst, arith, length-append}
 use Rattle.std.specs.Prelude.{slice_get, if◌then◌else◌}
 use Rattle.std.specs.Result.{is_ok}
 use Rattle.sched_base.specs.declared.rows.Row.{Row}
@@ -67,7 +68,8 @@ pub all_kits_made : (n m : ℕ) (kits : List (Kit GateHeld)) → AreUnrunSoFar n
 all_kits_made n m kits so_far past = λ p below. so_far.unrun p (omega (arith, below, past))
 
 -- a plan can be executed on kits of which none ran anything
-pub ready : (m n rounds window : ℕ) (p : PlanContents) (kits : List (Kit GateHeld)) → IsCompiled p → (rounds ≡ rounds_of p) × (rounds * p.tree.processors ≤ row_limit)
+pub ready : (m n rounds window : ℕ) (p : PlanContents) (kits : List (Kit GateHeld)) → IsCompiled p → (rounds ≡ rounds_of p)
+    × (rounds * p.tree.processors ≤ row_limit)
     → 1 ≤ window → window ≤ 1024 → p.tree.processors ≡ m → length p.set.tasks ≡ n → AreUnrun m kits → IsReady m n rounds window p kits
 ready m n rounds window p kits compiled counted some small wide many unrun = record {
   executable = record { compiled = compiled; rounds = counted.0; few = counted.1; some_window = some; small_window = small };
@@ -92,7 +94,8 @@ module _ (m n rounds window : ℕ) (p : PlanContents) (kits : List (Kit GateHeld
       subst (λ (x : GateHeld). x.ran ≡ []) (same_gate kits q kit.0 gate kit.1 at) kit.2
 
 -- one job more, which has the next number and has worked no tick
-fresh_more : {J : Type 0} (id used : J → ℕ) (n : ℕ) (places places' : List (Option J)) (job : J) → length places ≡ n → AreFresh id used n places → places' ≡ places ++ Some job ∷ [] → id job ≡ n → used job ≡ 0 → AreFresh id used (n + 1) places'
+fresh_more : {J : Type 0} (id used : J → ℕ) (n : ℕ) (places places' : List (Option J)) (job : J) → length places ≡ n → AreFresh id used n places →
+    places' ≡ places ++ Some job ∷ [] → id job ≡ n → used job ≡ 0 → AreFresh id used (n + 1) places'
 fresh_more {J} id used n places places' job long fresh is own unused =
     subst (λ xs. AreFresh id used (n + 1) xs) (sym is)
     (each_push (λ q o. (j : J) × (o ≡ Some (Some j)) × (id j ≡ q) × (used j ≡ 0)) places n (Some job) long (job, refl, own, unused) fresh)
@@ -125,12 +128,15 @@ module _ {J : Type 0} (id used : J → ℕ) (all : ℕ) where
   pub all_made : (n room : ℕ) (places : List (Option J)) → AreMade id used all n room places → all ≤ n → (m : ℕ) → m ≡ all → AreFresh id used m places
   all_made n room places made past m same = λ t below. made.fresh t (omega (arith, below, same, past))
 
-module _ {G J : Type 0} (ran : G → Option (List Row)) (gate_faults : G → ℕ) (id used : J → ℕ) (made : J → Made) (job_faults : J → ℕ) (p : PlanContents) (window : ℕ) (kits kits' : List (Kit G)) (places places' : List (Option J)) where
-  left_by : (lanes : List LaneContents) → Ran ran gate_faults id used made job_faults p window kits kits' places places' lanes → (t : ℕ) (job : J) → t < length p.set.tasks → JobAt places t job → (now : J) × JobAt places' t now
+module _ {G J : Type 0} (ran : G → Option (List Row)) (gate_faults : G → ℕ) (id used : J → ℕ) (made : J → Made) (job_faults : J → ℕ) (p : PlanContents)
+    (window : ℕ) (kits kits' : List (Kit G)) (places places' : List (Option J)) where
+  left_by : (lanes : List LaneContents) → Ran ran gate_faults id used made job_faults p window kits kits' places places' lanes → (t : ℕ) (job : J) →
+      t < length p.set.tasks → JobAt places t job → (now : J) × JobAt places' t now
   left_by lanes run t job within at = let now = run.jobs t job within at in (now.0, now.1)
 
   -- the job of a task is in its place again, whatever the run answers
-  pub job_left : (result : Result Executed ExecFault) → Outcome ran gate_faults id used made job_faults p window kits kits' places places' result → (t : ℕ) (job : J) → t < length p.set.tasks → JobAt places t job → (now : J) × JobAt places' t now
+  pub job_left : (result : Result Executed ExecFault) → Outcome ran gate_faults id used made job_faults p window kits kits' places places' result →
+      (t : ℕ) (job : J) → t < length p.set.tasks → JobAt places t job → (now : J) × JobAt places' t now
   job_left (Ok e) o = left_by o.0 o.1
   job_left (Err (fault.Gate processor row posts)) o = left_by o.0 o.1
   job_left (Err (fault.Job task processor row posts)) o = left_by o.0 o.1

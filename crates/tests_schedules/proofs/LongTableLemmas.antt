@@ -1,5 +1,6 @@
 -- What a long table holds.
-use Rattle.std.proofs.Common.{ℕ, zero, suc, ◌+◌, ◌<◌, ◌≡◌, List, [], ◌∷◌, ◌++◌, length, refl, sym, ap, ◌∙◌, arith, length-append, append-nil, subst, ◌^◌, Some, None}
+use Rattle.std.proofs.Common.{ℕ, zero, suc, ◌+◌, ◌<◌, ◌≡◌, List, [], ◌∷◌, ◌++◌, length, refl, sym, ap, ◌∙◌, arith, length-append, append-nil, subst}
+use Rattle.std.proofs.Common.{◌^◌, Some, None}
 use Rattle.std.specs.Prelude.{slice_get}
 use Rattle.sched_base.specs.declared.rows.Leaf.TheVariants.{Task}
 use Rattle.sched_base.specs.declared.rows.Row.{Row}
@@ -55,6 +56,8 @@ IsRound-one start r own starts forward fits = record {
 }
 
 -- a row of these parts is the one of its tick
-pub row_is : (r : Row) (k start end : ℕ) → r ≡ record { processor = 0; start = start; end = end; leaf = Task (record { 0 = 0 }) } → start ≡ k → end ≡ k + 1 → r ≡ steady_row k
+pub row_is : (r : Row) (k start end : ℕ) → r ≡ record { processor = 0; start = start; end = end; leaf = Task (record { 0 = 0 }) } → start ≡ k →
+    end ≡ k + 1 → r ≡ steady_row k
 row_is r k start end is first last =
-    is ∙ ap (λ n. record { processor = 0; start = n; end = end; leaf = Task (record { 0 = 0 }) }) first ∙ ap (λ n. record { processor = 0; start = k; end = n; leaf = Task (record { 0 = 0 }) }) last
+    is ∙ ap (λ n. record { processor = 0; start = n; end = end; leaf = Task (record { 0 = 0 }) }) first
+    ∙ ap (λ n. record { processor = 0; start = k; end = n; leaf = Task (record { 0 = 0 }) }) last

@@ -1,5 +1,6 @@
 -- Whole lines, whatever follows them.
-use Rattle.std.proofs.Common.{zero, suc, add-one, ℕ, ◌+◌, ◌-◌, ◌<◌, ◌≤◌, ◌≡◌, ◌≢◌, inl, inr, eqb, List, [], ◌∷◌, ◌++◌, length, take, drop, get_or, sym, refl, ap, ◌∙◌, arith, append_assoc}
+use Rattle.std.proofs.Common.{zero, suc, add-one, ℕ, ◌+◌, ◌-◌, ◌<◌, ◌≤◌, ◌≡◌, ◌≢◌, inl, inr, eqb, List, [], ◌∷◌, ◌++◌, length, take, drop, get_or}
+use Rattle.std.proofs.Common.{sym, refl, ap, ◌∙◌, arith, append_assoc}
 use Rattle.std.proofs.lemmas.Bool.{cases_Bool, cond-true, cond-false, ne_eqb}
 use Rattle.std.proofs.lemmas.List.{take-append-drop}
 use Rattle.std.proofs.Math.Seq.{drop-cons}
@@ -26,7 +27,8 @@ whole_line_is bs n h ne none at =
     let later = take (length bs - (n + 1)) (drop (n + 1) bs) in
     let rest : later ≡ drop (suc n) bs = take_rest (n + 1) (length bs) bs refl ∙ ap (λ k. drop k bs) (add-one n) in
     let bytes : bs ≡ take n bs ++ 10 ∷ later
-    = sym (take-append-drop n bs) ∙ ap (λ r. take n bs ++ r) (drop-cons bs n 0 below ∙ ap (λ b. b ∷ drop (suc n) bs) (at below) ∙ ap (λ r. 10 ∷ r) (sym rest)) in
+    = sym (take-append-drop n bs) ∙ ap (λ r. take n bs ++ r) (drop-cons bs n 0 below ∙ ap (λ b. b ∷ drop (suc n) bs) (at below) ∙ ap (λ r. 10 ∷ r)
+    (sym rest)) in
     record {
       bytes = bytes;
       first = λ more. ap (λ t. lines_of (t ++ more)) bytes ∙ ap lines_of (append_assoc (take n bs) (10 ∷ later) more)

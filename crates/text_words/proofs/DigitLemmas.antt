@@ -1,5 +1,6 @@
 -- Digits at the front of a text, and those that follow them.
-use Rattle.std.proofs.Common.{zero, suc, ℕ, ◌+◌, ◌-◌, ◌*◌, ◌%◌, ◌^◌, ◌<◌, ◌≤◌, ◌≡◌, Bool, true, false, cond, List, [], ◌∷◌, ◌++◌, length, take, drop, sym, refl, ap, ◌∙◌, arith}
+use Rattle.std.proofs.Common.{zero, suc, ℕ, ◌+◌, ◌-◌, ◌*◌, ◌%◌, ◌^◌, ◌<◌, ◌≤◌, ◌≡◌, Bool, true, false, cond, List, [], ◌∷◌, ◌++◌, length, take, drop}
+use Rattle.std.proofs.Common.{sym, refl, ap, ◌∙◌, arith}
 use Rattle.std.specs.Char.{is_ascii_digit}
 use Rattle.std.specs.Float.Numeral.{digits_len}
 use Rattle.std.specs.List.{list_all}
@@ -18,7 +19,8 @@ digits_front xs zero h = refl
 digits_front [] (suc n) h = refl
 digits_front (x ∷ xs) (suc n) h = go (digits_front xs n) (is_ascii_digit x) refl h
   where
-    go : (n ≤ digits_len xs → list_all is_ascii_digit (take n xs) ≡ true) → (b : Bool) → is_ascii_digit x ≡ b → suc n ≤ cond b (1 + digits_len xs) 0 → list_all is_ascii_digit (x ∷ take n xs) ≡ true
+    go : (n ≤ digits_len xs → list_all is_ascii_digit (take n xs) ≡ true) → (b : Bool) → is_ascii_digit x ≡ b → suc n ≤ cond b (1 + digits_len xs) 0 →
+        list_all is_ascii_digit (x ∷ take n xs) ≡ true
     go rest true e k = and_from _ _ e (rest (omega arith))
     go rest false e k = absurd (omega arith)
 

@@ -57,7 +57,8 @@ more_digits n ds big w =
     let some : 0 < n / 10 = omega (arith, big) in
     record {
       digits = list_all-push is_ascii_digit ds (48 + n % 10) w.digits (digit_of (n % 10) small);
-      value = (let push = digits_value_push 10 ds (48 + n % 10) in let d = digit_is (48 + n % 10) (digit_of (n % 10) small) in let v = w.value in omega (arith, push, d.0, v));
+      value = (let push = digits_value_push 10 ds (48 + n % 10) in let d = digit_is (48 + n % 10) (digit_of (n % 10) small) in let v = w.value in
+          omega (arith, push, d.0, v));
       leading = leads-push ds (48 + n % 10) w.leading (w.positive some);
       positive = λ h e. long_push ds (48 + n % 10) w.leading e;
     }

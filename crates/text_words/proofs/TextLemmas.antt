@@ -1,5 +1,6 @@
 -- The first line and the first word, by the place of the byte that ends them.
-use Rattle.std.proofs.Common.{zero, suc, add-one, ℕ, ◌+◌, ◌-◌, ◌*◌, ◌^◌, ◌<◌, ◌≤◌, ◌≡◌, ◌≢◌, true, List, [], ◌∷◌, ◌++◌, length, take, drop, get_or, Some, None, option_map, leb, min, sym, refl, ap, ◌∙◌, arith}
+use Rattle.std.proofs.Common.{zero, suc, add-one, ℕ, ◌+◌, ◌-◌, ◌*◌, ◌^◌, ◌<◌, ◌≤◌, ◌≡◌, ◌≢◌, true, List, [], ◌∷◌, ◌++◌, length, take, drop, get_or}
+use Rattle.std.proofs.Common.{Some, None, option_map, leb, min, sym, refl, ap, ◌∙◌, arith}
 use Rattle.std.specs.List.{list_all}
 use Rattle.std.proofs.lemmas.List.{take_all, take_more, take-append-drop, length-drop}
 use Rattle.std.proofs.Math.Seq.{drop-length, drop-cons}
@@ -18,13 +19,16 @@ line_whole b [] none = cond-false _ _ _ (ne_eqb b 10 (none 0 (omega arith)))
 line_whole b (c ∷ bs) none =
     cond-false _ _ _ (ne_eqb b 10 (none 0 (omega arith))) ∙ ap (onto_first_line b) (line_whole c bs (λ k h. none (suc k) (omega (arith, h))))
 
-pub line_before : (bs : List ℕ) (n : ℕ) → n < length bs → ((k : ℕ) → k < n → get_or bs k 0 ≢ 10) → get_or bs n 0 ≡ 10 → lines_of bs ≡ take n bs ∷ lines_of (drop (suc n) bs)
+pub line_before : (bs : List ℕ) (n : ℕ) → n < length bs → ((k : ℕ) → k < n → get_or bs k 0 ≢ 10) → get_or bs n 0 ≡ 10 → lines_of bs ≡ take n bs ∷ lines_of
+    (drop (suc n) bs)
 line_before [] n h none at = absurd (omega (arith, h))
 line_before (b ∷ bs) zero h none at = cond-true _ _ _ (eq-eqb b 10 at)
 line_before (b ∷ bs) (suc n) h none at =
-    cond-false _ _ _ (ne_eqb b 10 (none 0 (omega arith))) ∙ ap (onto_first_line b) (line_before bs n (omega (arith, h)) (λ k l. none (suc k) (omega (arith, l))) at)
+    cond-false _ _ _ (ne_eqb b 10 (none 0 (omega arith))) ∙ ap (onto_first_line b) (line_before bs n (omega (arith, h))
+    (λ k l. none (suc k) (omega (arith, l))) at)
 
-pub first_line_is : (bs : List ℕ) (n : ℕ) → n < length bs → ((k : ℕ) → k < n → get_or bs k 0 ≢ 10) → get_or bs n 0 ≡ 10 → lines_of bs ≡ take n bs ∷ lines_of (drop (n + 1) bs)
+pub first_line_is : (bs : List ℕ) (n : ℕ) → n < length bs → ((k : ℕ) → k < n → get_or bs k 0 ≢ 10) → get_or bs n 0 ≡ 10 → lines_of bs ≡ take n bs ∷ lines_of
+    (drop (n + 1) bs)
 first_line_is bs n h none at = rw add-one (line_before bs n h none at)
 
 pub last_line_is : (bs : List ℕ) (n : ℕ) → 0 < length bs → n ≡ length bs → ((k : ℕ) → k < n → get_or bs k 0 ≢ 10) → lines_of bs ≡ bs ∷ []
@@ -36,13 +40,20 @@ cut_none [] none = refl
 cut_none (b ∷ bs) none =
     cond-false _ _ _ (ne_eqb b 32 (none 0 (omega arith))) ∙ ap (option_map (onto_first b)) (cut_none bs (λ k h. none (suc k) (omega (arith, h))))
 
-pub cut_suc : (bs : List ℕ) (n : ℕ) → n < length bs → ((k : ℕ) → k < n → get_or bs k 0 ≢ 32) → get_or bs n 0 ≡ 32 → cut_space bs ≡ Some (take n bs, drop (suc n) bs)
+pub cut_suc : (bs : List ℕ) (n : ℕ) → n < length bs → ((k : ℕ) → k < n → get_or bs k 0 ≢ 32) → get_or bs n 0 ≡ 32 → cut_space bs ≡ Some (
+  take n bs,
+  drop (suc n) bs,
+)
 cut_suc [] n h none at = absurd (omega (arith, h))
 cut_suc (b ∷ bs) zero h none at = cond-true _ _ _ (eq-eqb b 32 at)
 cut_suc (b ∷ bs) (suc n) h none at =
-    cond-false _ _ _ (ne_eqb b 32 (none 0 (omega arith))) ∙ ap (option_map (onto_first b)) (cut_suc bs n (omega (arith, h)) (λ k l. none (suc k) (omega (arith, l))) at)
+    cond-false _ _ _ (ne_eqb b 32 (none 0 (omega arith))) ∙ ap (option_map (onto_first b)) (cut_suc bs n (omega (arith, h))
+    (λ k l. none (suc k) (omega (arith, l))) at)
 
-pub cut_at : (bs : List ℕ) (n : ℕ) → n < length bs → ((k : ℕ) → k < n → get_or bs k 0 ≢ 32) → get_or bs n 0 ≡ 32 → cut_space bs ≡ Some (take n bs, drop (n + 1) bs)
+pub cut_at : (bs : List ℕ) (n : ℕ) → n < length bs → ((k : ℕ) → k < n → get_or bs k 0 ≢ 32) → get_or bs n 0 ≡ 32 → cut_space bs ≡ Some (
+  take n bs,
+  drop (n + 1) bs,
+)
 cut_at bs n h none at = rw add-one (cut_suc bs n h none at)
 
 pub digit_is : (c : ℕ) → is_ascii_digit c ≡ true → (digit_value c ≡ c - 48) × (48 ≤ c) × (c ≤ 57)
@@ -57,7 +68,8 @@ all_digits_at [] i h l = absurd (omega (arith, l))
 all_digits_at (b ∷ bs) zero h l = (and_parts (is_ascii_digit b) (list_all is_ascii_digit bs) h).0
 all_digits_at (b ∷ bs) (suc i) h l = all_digits_at bs i (and_parts (is_ascii_digit b) (list_all is_ascii_digit bs) h).1 (omega (arith, l))
 
-pub value_more : (bs : List ℕ) (i v w : ℕ) → list_all is_ascii_digit bs ≡ true → i < length bs → v ≡ min (digits_value 10 (take i bs)) (2 ^ 128 - 1) → w ≡ min (min (v * 10) (2 ^ 128 - 1) + (get_or bs i 0 - 48)) (2 ^ 128 - 1)
+pub value_more : (bs : List ℕ) (i v w : ℕ) → list_all is_ascii_digit bs ≡ true → i < length bs → v ≡ min (digits_value 10 (take i bs)) (2 ^ 128 - 1) →
+    w ≡ min (min (v * 10) (2 ^ 128 - 1) + (get_or bs i 0 - 48)) (2 ^ 128 - 1)
     → w ≡ min (digits_value 10 (take (i + 1) bs)) (2 ^ 128 - 1)
 value_more bs i v w all h e f =
     let d = digit_is (get_or bs i 0) (all_digits_at bs i all h) in
@@ -73,7 +85,8 @@ line_from bs n h ne none at =
     let below : n < length bs = omega (arith, h, ne) in
     first_line_is bs n below none (at below) ∙ ap (λ r. take n bs ∷ lines_of r) (sym (take_rest (n + 1) (length bs) bs refl))
 
-pub line_to_end : (bs : List ℕ) (n : ℕ) → 0 < length bs → n ≡ length bs → ((k : ℕ) → k < n → get_or bs k 0 ≢ 10) → lines_of bs ≡ bs ∷ lines_of (take (length bs - n) (drop n bs))
+pub line_to_end : (bs : List ℕ) (n : ℕ) → 0 < length bs → n ≡ length bs → ((k : ℕ) → k < n → get_or bs k 0 ≢ 10) → lines_of bs ≡ bs ∷ lines_of
+    (take (length bs - n) (drop n bs))
 line_to_end bs n some e none =
     last_line_is bs n some e none ∙ ap (λ r. bs ∷ lines_of r) (sym (take_rest n (length bs) bs refl ∙ (ap (λ w. drop w bs) e ∙ drop-length bs)))
 
@@ -92,12 +105,15 @@ one_more i n v d h l m =
 
 list_all-append_true : (xs : List ℕ) (x : ℕ) → list_all is_ascii_digit xs ≡ true → is_ascii_digit x ≡ true → list_all is_ascii_digit (xs ++ x ∷ []) ≡ true
 list_all-append_true [] x h e = and_from _ _ e refl
-list_all-append_true (y ∷ xs) x h e = (let q = and_parts (is_ascii_digit y) (list_all is_ascii_digit xs) h in and_from _ _ q.0 (list_all-append_true xs x q.1 e))
+list_all-append_true (y ∷ xs) x h e = (let q = and_parts (is_ascii_digit y) (list_all is_ascii_digit xs) h in
+    and_from _ _ q.0 (list_all-append_true xs x q.1 e))
 
-pub all_more : (bs : List ℕ) (i : ℕ) → i < length bs → list_all is_ascii_digit (take i bs) ≡ true → is_ascii_digit (get_or bs i 0) ≡ true → list_all is_ascii_digit (take (i + 1) bs) ≡ true
+pub all_more : (bs : List ℕ) (i : ℕ) → i < length bs → list_all is_ascii_digit (take i bs) ≡ true → is_ascii_digit (get_or bs i 0) ≡ true →
+    list_all is_ascii_digit (take (i + 1) bs) ≡ true
 all_more bs i h all d = ap (list_all is_ascii_digit) (take_more bs i 0 h) ∙ list_all-append_true (take i bs) (get_or bs i 0) all d
 
-pub digits_more : (bs : List ℕ) (i v d : ℕ) → i < length bs → is_ascii_digit (get_or bs i 0) ≡ true → v ≡ digits_value 10 (take i bs) → d ≡ get_or bs i 0 - 48 → v * 10 + d ≡ digits_value 10 (take (i + 1) bs)
+pub digits_more : (bs : List ℕ) (i v d : ℕ) → i < length bs → is_ascii_digit (get_or bs i 0) ≡ true → v ≡ digits_value 10 (take i bs) →
+    d ≡ get_or bs i 0 - 48 → v * 10 + d ≡ digits_value 10 (take (i + 1) bs)
 digits_more bs i v d h digit e f =
     let p = digit_is (get_or bs i 0) digit in
     let m = digits_value_more 10 bs i h in

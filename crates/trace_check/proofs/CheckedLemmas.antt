@@ -19,8 +19,10 @@ found_in_trace t now found verdict j n same k h v is =
     omega (arith, within, all, is)
 
 -- and it is what its rows tell
-pub told_of_trace : (t now : Trace) (found : List Findings) (verdict : Verdict) (j : ℕ) (f : Findings) → t ≡ now → IsJudged t found verdict → j < length now.set.tasks
-    → IsValid now.set now.scale (now.set.horizon * now.scale) (now.set.horizon * now.scale) now.rows → f ≡ get_or found j f → IsToldOfTask now.set now.scale now.rows j f
+pub told_of_trace : (t now : Trace) (found : List Findings) (verdict : Verdict) (j : ℕ) (f : Findings) → t ≡ now → IsJudged t found verdict →
+    j < length now.set.tasks
+    → IsValid now.set now.scale (now.set.horizon * now.scale) (now.set.horizon * now.scale) now.rows → f ≡ get_or found j f → IsToldOfTask now.set now.scale
+    now.rows j f
 told_of_trace t now found verdict j f same k h v e =
     let within : j < length found = found_in_trace t now found verdict j (length found) same k h v refl in
     let at : found_at found j ≡ f = sym (e ∙ get_or_default found j f _ within) in

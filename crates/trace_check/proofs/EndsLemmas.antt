@@ -1,5 +1,6 @@
 -- The ends that are kept of a task's rows, as rows are taken in.
-use Rattle.std.proofs.Common.{zero, suc, ℕ, ◌+◌, ◌-◌, ◌*◌, ◌/◌, ◌<◌, ◌≤◌, ◌≡◌, ◌&&◌, inl, inr, max, ltb, Bool, true, false, cond, take, List, [], ◌∷◌, ◌++◌, length, length-append, get_or, set, replicate, sym, refl, ap, ◌∙◌, subst, arith}
+use Rattle.std.proofs.Common.{zero, suc, ℕ, ◌+◌, ◌-◌, ◌*◌, ◌/◌, ◌<◌, ◌≤◌, ◌≡◌, ◌&&◌, inl, inr, max, ltb, Bool, true, false, cond, take, List, [], ◌∷◌}
+use Rattle.std.proofs.Common.{◌++◌, length, length-append, get_or, set, replicate, sym, refl, ap, ◌∙◌, subst, arith}
 use Rattle.std.proofs.Math.Nat.{mul-le-mul_right, lt-div-mul-add, div-mul-le_self, add-mul, mul_assoc}
 use Rattle.std.proofs.Math.Seq.{take-suc}
 use Rattle.std.proofs.lemmas.Bool.{cases_lt, cases_eq, eq-eqb, ne_eqb, lt-ltb, le-ltb, cond-true, cond-false, and_from}
@@ -55,12 +56,15 @@ one_more true false q r m n h = omega (arith, h)
 one_more false true q r m n h = h
 one_more false false q r m n h = h
 
-pub reach_more : (rows : List Row) (r : Row) (j b : ℕ) → reach_rows (rows ++ r ∷ []) j b ≡ cond (is_of_task j r.leaf && ltb r.start b) (max r.end (reach_rows rows j b)) (reach_rows rows j b)
+pub reach_more : (rows : List Row) (r : Row) (j b : ℕ) → reach_rows (rows ++ r ∷ []) j b ≡ cond (is_of_task j r.leaf && ltb r.start b)
+    (max r.end (reach_rows rows j b)) (reach_rows rows j b)
 reach_more [] r j b = refl
 reach_more (q ∷ rows) r j b =
-    one_more (is_of_task j q.leaf && ltb q.start b) (is_of_task j r.leaf && ltb r.start b) q.end r.end (reach_rows rows j b) (reach_rows (rows ++ r ∷ []) j b) (reach_more rows r j b)
+    one_more (is_of_task j q.leaf && ltb q.start b) (is_of_task j r.leaf && ltb r.start b) q.end r.end (reach_rows rows j b) (reach_rows (rows ++ r ∷ []) j
+    b) (reach_more rows r j b)
 
-pub reach_own : (rows : List Row) (r : Row) (j b : ℕ) → is_of_task j r.leaf ≡ true → r.start < b → reach_rows (rows ++ r ∷ []) j b ≡ max r.end (reach_rows rows j b)
+pub reach_own : (rows : List Row) (r : Row) (j b : ℕ) → is_of_task j r.leaf ≡ true → r.start < b → reach_rows (rows ++ r ∷ []) j b ≡ max r.end
+    (reach_rows rows j b)
 reach_own rows r j b own early = reach_more rows r j b ∙ cond-true _ _ _ (and_from _ _ own (lt-ltb r.start b early))
 
 pub reach_late : (rows : List Row) (r : Row) (j b : ℕ) → is_of_task j r.leaf ≡ true → b ≤ r.start → reach_rows (rows ++ r ∷ []) j b ≡ reach_rows rows j b
@@ -72,7 +76,8 @@ reach_other rows r j b other = reach_more rows r j b ∙ cond-false _ _ _ (ap (�
 -- ---- periods
 
 -- a tick of period n is before the end of period k where n is at most k
-pub in_period : (base span n k x : ℕ) → base + n * span ≤ x → x < base + n * span + span → (x < base + (k + 1) * span → n ≤ k) × (n ≤ k → x < base + (k + 1) * span)
+pub in_period : (base span n k x : ℕ) → base + n * span ≤ x → x < base + n * span + span → (x < base + (k + 1) * span → n ≤ k)
+    × (n ≤ k → x < base + (k + 1) * span)
 in_period base span n k x low high = (
   λ h. (elim (cases_lt k n) [
     | inl below ↦ (let most : (k + 1) * span ≤ n * span = mul-le-mul_right span (omega (arith, below)) in absurd (omega (arith, most, low, h)))
@@ -87,7 +92,8 @@ in_period base span n k x low high = (
 pub before_all : (base span k x : ℕ) → x < base → (x < base + (k + 1) * span → 0 ≤ k) × (0 ≤ k → x < base + (k + 1) * span)
 before_all base span k x h = ((λ g. omega arith), λ g. omega (arith, h))
 
-pub divided : (base span k x : ℕ) → 0 < span → base ≤ x → (x < base + (k + 1) * span → (x - base) / span ≤ k) × ((x - base) / span ≤ k → x < base + (k + 1) * span)
+pub divided : (base span k x : ℕ) → 0 < span → base ≤ x → (x < base + (k + 1) * span → (x - base) / span ≤ k) × ((x - base) / span ≤ k →
+    x < base + (k + 1) * span)
 divided base span k x some low =
     let least : (x - base) / span * span ≤ x - base = div-mul-le_self (x - base) span in
     let most : x - base < (x - base) / span * span + span = lt-div-mul-add some in
@@ -103,8 +109,10 @@ end_is scale task t k is =
 -- ---- a row more
 
 -- as a row of the task is taken in: in the period n, where its end is kept
-pub ends_set : (done : List Row) (r : Row) (j n v : ℕ) (old new : TaskReach) → AreEnds done j old → is_of_task j r.leaf ≡ true → new.base ≡ old.base → new.span ≡ old.span
-    → new.begin ≡ new.base + new.number * new.span → ((k : ℕ) → (r.start < old.base + (k + 1) * old.span → n ≤ k) × (n ≤ k → r.start < old.base + (k + 1) * old.span))
+pub ends_set : (done : List Row) (r : Row) (j n v : ℕ) (old new : TaskReach) → AreEnds done j old → is_of_task j r.leaf ≡ true → new.base ≡ old.base →
+    new.span ≡ old.span
+    → new.begin ≡ new.base + new.number * new.span → ((k : ℕ) → (r.start < old.base + (k + 1) * old.span → n ≤ k)
+    × (n ≤ k → r.start < old.base + (k + 1) * old.span))
     → n < length old.ends → v ≡ max r.end (get_or old.ends n 0) → new.ends ≡ set old.ends n v → AreEnds (done ++ r ∷ []) j new
 ends_set done r j n v old new e own base span begin place within value items =
     let size : length new.ends ≡ length old.ends = ap length items ∙ length-set old.ends n v in
@@ -114,12 +122,14 @@ ends_set done r j n v old new e own base span begin place within value items =
       each = λ k h. (
           let below : k < length old.ends = omega (arith, h, size) in
           let had = e.each k below in
-          let tick : old.base + (k + 1) * old.span ≡ new.base + (k + 1) * new.span = ap (λ s. old.base + (k + 1) * s) (sym span) ∙ ap (λ b. b + (k + 1) * new.span) (sym base) in
+          let tick : old.base + (k + 1) * old.span ≡ new.base + (k + 1) * new.span = ap (λ s. old.base + (k + 1) * s) (sym span)
+          ∙ ap (λ b. b + (k + 1) * new.span) (sym base) in
           subst (λ b. greatest_to new.ends k ≡ reach_rows (done ++ r ∷ []) j b) tick
           (ap (λ xs. greatest_to xs k) (items ∙ ap (set old.ends n) value) ∙ (elim (cases_lt k n) [
             | inl under ↦
                 greatest_kept old.ends n k (max r.end (get_or old.ends n 0)) under
-                ∙ (had ∙ sym (reach_late done r j (old.base + (k + 1) * old.span) own (not_early r.start (old.base + (k + 1) * old.span) n k under (place k).0)))
+                ∙ (had ∙ sym (reach_late done r j (old.base + (k + 1) * old.span) own (not_early r.start (old.base + (k + 1) * old.span) n k under
+                (place k).0)))
             | inr over ↦
                 greatest_set old.ends n k r.end within over
                 ∙ (ap (max r.end) had ∙ sym (reach_own done r j (old.base + (k + 1) * old.span) own ((place k).1 over)))
@@ -133,8 +143,10 @@ ends_set done r j n v old new e own base span begin place within value items =
     ]
 
 -- and where its end isn't kept
-pub ends_past : (done : List Row) (r : Row) (j n : ℕ) (old new : TaskReach) → AreEnds done j old → is_of_task j r.leaf ≡ true → new.base ≡ old.base → new.span ≡ old.span
-    → new.begin ≡ new.base + new.number * new.span → ((k : ℕ) → (r.start < old.base + (k + 1) * old.span → n ≤ k) × (n ≤ k → r.start < old.base + (k + 1) * old.span))
+pub ends_past : (done : List Row) (r : Row) (j n : ℕ) (old new : TaskReach) → AreEnds done j old → is_of_task j r.leaf ≡ true → new.base ≡ old.base →
+    new.span ≡ old.span
+    → new.begin ≡ new.base + new.number * new.span → ((k : ℕ) → (r.start < old.base + (k + 1) * old.span → n ≤ k)
+    × (n ≤ k → r.start < old.base + (k + 1) * old.span))
     → length old.ends ≤ n → new.ends ≡ old.ends → AreEnds (done ++ r ∷ []) j new
 ends_past done r j n old new e own base span begin place past items =
     let size : length new.ends ≡ length old.ends = ap length items in
@@ -143,9 +155,11 @@ ends_past done r j n old new e own base span begin place past items =
       begin = begin;
       each = λ k h. (
           let below : k < length old.ends = omega (arith, h, size) in
-          let tick : old.base + (k + 1) * old.span ≡ new.base + (k + 1) * new.span = ap (λ s. old.base + (k + 1) * s) (sym span) ∙ ap (λ b. b + (k + 1) * new.span) (sym base) in
+          let tick : old.base + (k + 1) * old.span ≡ new.base + (k + 1) * new.span = ap (λ s. old.base + (k + 1) * s) (sym span)
+          ∙ ap (λ b. b + (k + 1) * new.span) (sym base) in
           subst (λ b. greatest_to new.ends k ≡ reach_rows (done ++ r ∷ []) j b) tick
-          (ap (λ xs. greatest_to xs k) items ∙ (e.each k below ∙ sym (reach_late done r j (old.base + (k + 1) * old.span) own (elim (cases_lt r.start (old.base + (k + 1) * old.span)) [
+          (ap (λ xs. greatest_to xs k) items ∙ (e.each k below ∙ sym (reach_late done r j (old.base + (k + 1) * old.span) own
+          (elim (cases_lt r.start (old.base + (k + 1) * old.span)) [
             | inl early ↦ (let g = (place k).0 early in absurd (omega (arith, g, below, past)))
             | inr late ↦ late
           ])))));
@@ -185,25 +199,30 @@ reach_kept rows j t (suc k) before e h b =
 
 -- ---- all tasks
 
-pub reaches_other : (done : List Row) (r : Row) (reaches : List TaskReach) → HaveEnds done reaches → ((j : ℕ) → j < length reaches → is_of_task j r.leaf ≡ false) → HaveEnds (done ++ r ∷ []) reaches
+pub reaches_other : (done : List Row) (r : Row) (reaches : List TaskReach) → HaveEnds done reaches → ((j : ℕ) → j < length reaches →
+    is_of_task j r.leaf ≡ false) → HaveEnds (done ++ r ∷ []) reaches
 reaches_other done r reaches e other = λ j none h. ends_other done r j (get_or reaches j none) (e j none h) (other j h)
 
-pub reaches_set : (done : List Row) (r : Row) (i : ℕ) (reaches : List TaskReach) (t : TaskReach) → i < length reaches → HaveEnds done reaches → AreEnds (done ++ r ∷ []) i t
+pub reaches_set : (done : List Row) (r : Row) (i : ℕ) (reaches : List TaskReach) (t : TaskReach) → i < length reaches → HaveEnds done reaches →
+    AreEnds (done ++ r ∷ []) i t
     → ((j : ℕ) → (j ≡ i → ⊥) → is_of_task j r.leaf ≡ false) → HaveEnds (done ++ r ∷ []) (set reaches i t)
 reaches_set done r i reaches t within e own other = λ j none h. (elim (cases_eq j i) [
-  | inl here ↦ subst (λ k. AreEnds (done ++ r ∷ []) k (get_or (set reaches i t) k none)) (sym here) (subst (AreEnds (done ++ r ∷ []) i) (sym (get_or-set_same reaches i t none within)) own)
+  | inl here ↦ subst (λ k. AreEnds (done ++ r ∷ []) k (get_or (set reaches i t) k none)) (sym here) (subst (AreEnds (done ++ r ∷ []) i)
+      (sym (get_or-set_same reaches i t none within)) own)
   | inr there ↦ subst (AreEnds (done ++ r ∷ []) j) (sym (get_or-set_other reaches i j t none there))
       (ends_other done r j (get_or reaches j none) (e j none (let size = length-set reaches i t in omega (arith, h, size))) (other j there))
 ])
 
-pub periods_set : (scale i : ℕ) (tasks : List Task) (reaches : List TaskReach) (old t : TaskReach) → i < length reaches → old ≡ get_or reaches i old → t.base ≡ old.base → t.span ≡ old.span
+pub periods_set : (scale i : ℕ) (tasks : List Task) (reaches : List TaskReach) (old t : TaskReach) → i < length reaches → old ≡ get_or reaches i old →
+    t.base ≡ old.base → t.span ≡ old.span
     → AreReachesOf scale tasks reaches → AreReachesOf scale tasks (set reaches i t)
 periods_set scale i tasks reaches old t within is base span p = λ j none h. (elim (cases_eq j i) [
   | inl here ↦ (
       let had : IsReachOf scale (task_at tasks i) old = subst (IsReachOf scale (task_at tasks i)) (sym is) (p i old within) in
       subst (λ k. IsReachOf scale (task_at tasks k) (get_or (set reaches i t) k none)) (sym here)
       (subst (IsReachOf scale (task_at tasks i)) (sym (get_or-set_same reaches i t none within)) (record { base = base ∙ had.base; span = span ∙ had.span })))
-  | inr there ↦ subst (IsReachOf scale (task_at tasks j)) (sym (get_or-set_other reaches i j t none there)) (p j none (let size = length-set reaches i t in omega (arith, h, size)))
+  | inr there ↦ subst (IsReachOf scale (task_at tasks j)) (sym (get_or-set_other reaches i j t none there)) (p j none (let size = length-set reaches i t in
+      omega (arith, h, size)))
 ])
 
 pub ends_push : (reaches : List TaskReach) (t : TaskReach) → HaveEnds [] reaches → ((j : ℕ) → AreEnds [] j t) → HaveEnds [] (reaches ++ t ∷ [])
@@ -212,17 +231,20 @@ ends_push reaches t e new = λ j none h. (elim (cases_lt j (length reaches)) [
   | inr there ↦ (
       let all = length-append reaches (t ∷ []) in
       let here : length reaches ≡ j = omega (arith, h, there, all) in
-      subst (λ k. AreEnds [] k (get_or (reaches ++ t ∷ []) k none)) here (subst (AreEnds [] (length reaches)) (sym (get_or-append_seam reaches t [] none)) (new (length reaches))))
+      subst (λ k. AreEnds [] k (get_or (reaches ++ t ∷ []) k none)) here (subst (AreEnds [] (length reaches)) (sym (get_or-append_seam reaches t [] none))
+      (new (length reaches))))
 ])
 
-pub periods_push : (scale : ℕ) (tasks : List Task) (reaches : List TaskReach) (t : TaskReach) → AreReachesOf scale tasks reaches → IsReachOf scale (task_at tasks (length reaches)) t
+pub periods_push : (scale : ℕ) (tasks : List Task) (reaches : List TaskReach) (t : TaskReach) → AreReachesOf scale tasks reaches →
+    IsReachOf scale (task_at tasks (length reaches)) t
     → AreReachesOf scale tasks (reaches ++ t ∷ [])
 periods_push scale tasks reaches t p new = λ j none h. (elim (cases_lt j (length reaches)) [
   | inl below ↦ subst (IsReachOf scale (task_at tasks j)) (sym (get_or_append_left reaches (t ∷ []) none j below)) (p j none below)
   | inr there ↦ (
       let all = length-append reaches (t ∷ []) in
       let here : length reaches ≡ j = omega (arith, h, there, all) in
-      subst (λ k. IsReachOf scale (task_at tasks k) (get_or (reaches ++ t ∷ []) k none)) here (subst (IsReachOf scale (task_at tasks (length reaches))) (sym (get_or-append_seam reaches t [] none)) new))
+      subst (λ k. IsReachOf scale (task_at tasks k) (get_or (reaches ++ t ∷ []) k none)) here (subst (IsReachOf scale (task_at tasks (length reaches)))
+      (sym (get_or-append_seam reaches t [] none)) new))
 ])
 
 -- ---- loops
@@ -249,7 +271,8 @@ no_task_at j (leaves.Wait id) not = refl
 no_task_at j (leaves.Idle n) not = refl
 no_task_at j leaves.Empty not = refl
 
-pub none_yet : (scale : ℕ) (tasks : List Task) (reaches : List TaskReach) → reaches ≡ [] → AreReachesOf scale tasks reaches × (length reaches ≡ 0) × HaveEnds [] reaches
+pub none_yet : (scale : ℕ) (tasks : List Task) (reaches : List TaskReach) → reaches ≡ [] → AreReachesOf scale tasks reaches × (length reaches ≡ 0)
+    × HaveEnds [] reaches
 none_yet scale tasks reaches is =
     let size : length reaches ≡ 0 = ap length is in
     ((λ j none h. absurd (omega (arith, h, size))), size, λ j none h. absurd (omega (arith, h, size)))

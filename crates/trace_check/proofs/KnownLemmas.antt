@@ -1,5 +1,6 @@
 -- Words that stand in line after line.
-use Rattle.std.proofs.Common.{ℕ, ◌+◌, ◌-◌, ◌<◌, ◌≤◌, ◌≡◌, inl, inr, List, [], ◌∷◌, ◌++◌, length, take, drop, codes, get_or, zero-add, sym, refl, ap, subst, ◌∙◌, arith, append_assoc, length-append}
+use Rattle.std.proofs.Common.{ℕ, ◌+◌, ◌-◌, ◌<◌, ◌≤◌, ◌≡◌, inl, inr, List, [], ◌∷◌, ◌++◌, length, take, drop, codes, get_or, zero-add, sym, refl, ap}
+use Rattle.std.proofs.Common.{subst, ◌∙◌, arith, append_assoc, length-append}
 use Rattle.std.proofs.Math.Seq.{take-append_seam}
 use Rattle.std.proofs.lemmas.Bool.{cases_lt}
 use Rattle.text_words.specs.Words.{number_of, BeginsWith}
@@ -7,7 +8,8 @@ use Rattle.trace_check.specs.KnownWords.{unspaced, IsSpaced, IsRowFront, BeginsR
 
 -- the first eight bytes and the last eight are all of at most sixteen
 pub same_sixteen : (text word : List ℕ) → 8 ≤ length word → length word ≤ 16 → ((k : ℕ) → k < 8 → get_or text (0 + k) 0 ≡ get_or word (0 + k) 0)
-    → ((k : ℕ) → k < 8 → get_or text (length word - 8 + k) 0 ≡ get_or word (length word - 8 + k) 0) → (k : ℕ) → k < length word → get_or text k 0 ≡ get_or word k 0
+    → ((k : ℕ) → k < 8 → get_or text (length word - 8 + k) 0 ≡ get_or word (length word - 8 + k) 0) → (k : ℕ) → k < length word → get_or text k 0 ≡ get_or
+    word k 0
 same_sixteen text word many most low high k within =
     elim (cases_lt k 8) [
       | inl l ↦ subst (λ n. get_or text n 0 ≡ get_or word n 0) (zero-add k) (low k l)
@@ -38,7 +40,8 @@ row_before n text front rest b e =
     record { behind = b.behind ++ rest; row = e ∙ ap (λ w. w ++ rest) b.row; processor = word_before n (b.behind ++ rest) b.behind rest b.processor refl }
 
 -- the front of the row line that stands there
-pub row_taken : (n : ℕ) (text mid rest : List ℕ) → text ≡ codes "row" ++ 32 ∷ mid → BeginsWith n mid rest → BeginsRowOf n (take (length text - length rest) text) []
+pub row_taken : (n : ℕ) (text mid rest : List ℕ) → text ≡ codes "row" ++ 32 ∷ mid → BeginsWith n mid rest → BeginsRowOf n (take (length text - length rest)
+    text) []
 row_taken n text mid rest e b =
     let whole : text ≡ (codes "row" ++ 32 ∷ (b.0 ++ 32 ∷ [])) ++ rest
     = e ∙ ap (λ m. codes "row" ++ 32 ∷ m) (b.1 ∙ sym (append_assoc b.0 (32 ∷ []) rest)) in

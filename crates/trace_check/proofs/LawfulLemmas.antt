@@ -1,5 +1,6 @@
 -- What is read of a text is lawful: its set, and its scale.
-use Rattle.std.proofs.Common.{zero, suc, ℕ, ◌+◌, ◌-◌, ◌^◌, ◌<◌, ◌≤◌, ◌≡◌, ◌&&◌, inl, inr, ltb, leb, true, List, [], ◌∷◌, ◌++◌, length, length-append, Option, Some, None, option_and_then, Result, Ok, Err, codes, sym, refl, ap, ◌∙◌, subst, arith}
+use Rattle.std.proofs.Common.{zero, suc, ℕ, ◌+◌, ◌-◌, ◌^◌, ◌<◌, ◌≤◌, ◌≡◌, ◌&&◌, inl, inr, ltb, leb, true, List, [], ◌∷◌, ◌++◌, length, length-append}
+use Rattle.std.proofs.Common.{Option, Some, None, option_and_then, Result, Ok, Err, codes, sym, refl, ap, ◌∙◌, subst, arith}
 use Rattle.std.specs.List.{AllByRecursion}
 use Rattle.std.proofs.lemmas.Bool.{cases_Bool, and_parts, ltb-true, leb-true, cond-true, cond-false}
 use Rattle.sched_base.specs.declared.sets.Task.{Task}
@@ -40,7 +41,8 @@ step_line {A} line None lines rest x e = absurd (let f : ◌≡◌ {A = Result (
 step_line {A} line (Some y) lines rest x e = ap Some (same_first y x lines rest e)
 
 -- the line that was read
-line_read : {A : Type 0} (line : ℕ) (read : List ℕ → Option A) (lines rest : List (List ℕ)) (x : A) → next_line line read lines ≡ Ok (x, rest) → (text : List ℕ) × (read text ≡ Some x)
+line_read : {A : Type 0} (line : ℕ) (read : List ℕ → Option A) (lines rest : List (List ℕ)) (x : A) → next_line line read lines ≡ Ok (x, rest) →
+    (text : List ℕ) × (read text ≡ Some x)
 line_read {A} line read [] rest x e = absurd (let f : ◌≡◌ {A = Result (A × List (List ℕ)) ℕ} (Err line) (Ok (x, rest)) = e in cc)
 line_read line read (text ∷ lines) rest x e = (text, step_line line (read text) lines rest x e)
 
@@ -59,7 +61,8 @@ within_both low high n m e =
       | inr f ↦ absurd (let none : None ≡ Some m = sym (cond-false (leb low n && leb n high) (Some n) None f) ∙ e in cc)
     ]
 
-number_limits : (line low high : ℕ) (word : List ℕ) (lines rest : List (List ℕ)) (n : ℕ) → next_line line (number_within word low high) lines ≡ Ok (n, rest) → (low ≤ n) × (n ≤ high)
+number_limits : (line low high : ℕ) (word : List ℕ) (lines rest : List (List ℕ)) (n : ℕ) → next_line line (number_within word low high) lines ≡ Ok (n, rest)
+    → (low ≤ n) × (n ≤ high)
 number_limits line low high word lines rest n e =
     let read = line_read line (number_within word low high) lines rest n e in
     let found = found_then (number_after word read.0) (within low high) n read.1 in
@@ -171,7 +174,8 @@ tasks_lawful v (suc n) done lines rest tasks e so_far =
 
 -- ---- the trace
 
-scaled : (h : Head) (tasks : List Task) (lines : List (List ℕ)) (t : Trace) → judged h (tasks, lines) ≡ Ok t → (is_scale tasks h.scale ≡ true) × (body h tasks lines ≡ Ok t)
+scaled : (h : Head) (tasks : List Task) (lines : List (List ℕ)) (t : Trace) → judged h (tasks, lines) ≡ Ok t → (is_scale tasks h.scale ≡ true)
+    × (body h tasks lines ≡ Ok t)
 scaled h tasks lines t e =
     elim (cases_Bool (is_scale tasks h.scale)) [
       | inl is ↦ (is, sym (cond-true (is_scale tasks h.scale) (body h tasks lines) (Err 4) is) ∙ e)
@@ -200,7 +204,8 @@ record IsReadLawfully (t : Trace) : Type 0 where
   pub scale : IsScale t.set.tasks t.scale
   pub fits : t.scale ≤ 2 ^ 94
 
-of_lawful : (h : Head) (tasks : List Task) (t : Trace) → IsWithin h → AreLawful h.tasks tasks → is_scale tasks h.scale ≡ true → IsOf h tasks t → IsReadLawfully t
+of_lawful : (h : Head) (tasks : List Task) (t : Trace) → IsWithin h → AreLawful h.tasks tasks → is_scale tasks h.scale ≡ true → IsOf h tasks t →
+    IsReadLawfully t
 of_lawful h tasks t head lawful is whole =
     let set = whole.set in
     let own : IsLawful (set_of h tasks) = record {

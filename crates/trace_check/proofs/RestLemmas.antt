@@ -1,5 +1,6 @@
 -- What is left of a text, and of a window.
-use Rattle.std.proofs.Common.{ℕ, ◌+◌, ◌-◌, ◌*◌, ◌≡◌, ◌≤◌, ◌<◌, true, false, Bool, not, cond, List, ◌++◌, length, length-append, refl, sym, ap, ◌∙◌, subst, arith, Fits, w64}
+use Rattle.std.proofs.Common.{ℕ, ◌+◌, ◌-◌, ◌*◌, ◌≡◌, ◌≤◌, ◌<◌, true, false, Bool, not, cond, List, ◌++◌, length, length-append, refl, sym, ap, ◌∙◌}
+use Rattle.std.proofs.Common.{subst, arith, Fits, w64}
 use Rattle.text_window.specs.Windows.{WindowHeld}
 
 -- so many are no more than they are
@@ -38,11 +39,13 @@ pub passed_small : (w u v : WindowHeld) (most : ℕ) → u.limit ≡ w.limit →
 passed_small w u v most before limit small = subst (λ n. n < most) (sym (limit ∙ before)) small
 
 -- a window that was filled has no more left
-pub left_no_more : (u v w : WindowHeld) (more : List ℕ) → v.count ≡ u.count → v.limit ≡ u.limit → w.count ≡ v.count + length more → w.limit ≡ v.limit → w.limit + 1 - w.count ≤ u.limit + 1 - u.count
+pub left_no_more : (u v w : WindowHeld) (more : List ℕ) → v.count ≡ u.count → v.limit ≡ u.limit → w.count ≡ v.count + length more → w.limit ≡ v.limit →
+    w.limit + 1 - w.count ≤ u.limit + 1 - u.count
 left_no_more u v w more count limit filled same = omega arith
 
 -- and with one byte and more there is less left
-pub left_less : (u v w : WindowHeld) (seen more : List ℕ) → v.count ≡ u.count → v.limit ≡ u.limit → seen ≡ v.ahead → w.ahead ≡ v.ahead ++ more → w.count ≡ v.count + length more → w.limit ≡ v.limit
+pub left_less : (u v w : WindowHeld) (seen more : List ℕ) → v.count ≡ u.count → v.limit ≡ u.limit → seen ≡ v.ahead → w.ahead ≡ v.ahead ++ more →
+    w.count ≡ v.count + length more → w.limit ≡ v.limit
     → w.count ≤ w.limit → 2 * length seen + 1 ≤ length w.ahead → w.limit + 1 - w.count < u.limit + 1 - u.count
 left_less u v w seen more count limit is ahead filled same within enough =
     let long : length w.ahead ≡ length (v.ahead ++ more) = ap length ahead in

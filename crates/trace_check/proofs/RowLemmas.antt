@@ -1,5 +1,7 @@
 -- Row lines: numbers past every limit, and one line after the other.
-use Rattle.std.proofs.Common.{Fits, w64, get_or, replicate, ℕ, ◌+◌, ◌-◌, ◌^◌, ◌<◌, ◌≤◌, ◌≡◌, ◌&&◌, inl, inr, eqb, ltb, leb, cond, Bool, true, false, List, [], ◌∷◌, ◌++◌, length, length-append, Option, Some, None, option_map, option_and_then, Ok, Err, codes, sym, refl, ap, ◌∙◌, subst, arith}
+use Rattle.std.proofs.Common.{Fits, w64, get_or, replicate, ℕ, ◌+◌, ◌-◌, ◌^◌, ◌<◌, ◌≤◌, ◌≡◌, ◌&&◌, inl, inr, eqb, ltb, leb, cond, Bool, true, false}
+use Rattle.std.proofs.Common.{List, [], ◌∷◌, ◌++◌, length, length-append, Option, Some, None, option_map, option_and_then, Ok, Err, codes, sym, refl}
+use Rattle.std.proofs.Common.{ap, ◌∙◌, subst, arith}
 use Rattle.std.proofs.lemmas.Bool.{cases_Bool, both_ways, and_parts, eqb-true, eqb-false, ltb-true, leb-true, false_from_ne_true, cond-false}
 use Rattle.std.proofs.lemmas.List.{length-replicate, get_or-replicate}
 use Rattle.sched_base.specs.declared.rows.Row.{Row}
@@ -39,17 +41,20 @@ cap_within n h = omega (arith, h)
 within_cap : (n : ℕ) → n < 2 ^ 127 → cap n ≡ n
 within_cap n h = omega (arith, h)
 
-row_from_same : (tasks : List Task) (done : List Row) (name : List ℕ) (p s e p' s' e' : ℕ) → p ≡ p' → s ≡ s' → e ≡ e' → row_from tasks done p s e name ≡ row_from tasks done p' s' e' name
+row_from_same : (tasks : List Task) (done : List Row) (name : List ℕ) (p s e p' s' e' : ℕ) → p ≡ p' → s ≡ s' → e ≡ e' → row_from tasks done p s e
+    name ≡ row_from tasks done p' s' e' name
 row_from_same tasks done name p s e p' s' e' a b c =
     ap (λ x. row_from tasks done x s e name) a ∙ (ap (λ x. row_from tasks done p' x e name) b ∙ ap (λ x. row_from tasks done p' s' x name) c)
 
 row_from_unfit : (tasks : List Task) (done : List Row) (name : List ℕ) (p s e : ℕ) → fit (length done) p s e ≡ false → row_from tasks done p s e name ≡ None
 row_from_unfit tasks done name p s e h = cond-false (fit (length done) p s e) _ _ h
 
-row_from_capped : (tasks : List Task) (done : List Row) (name : List ℕ) (p s e : ℕ) → row_from tasks done (cap p) (cap s) (cap e) name ≡ row_from tasks done p s e name
+row_from_capped : (tasks : List Task) (done : List Row) (name : List ℕ) (p s e : ℕ) → row_from tasks done (cap p) (cap s) (cap e) name ≡ row_from tasks done
+    p s e name
 row_from_capped tasks done name p s e =
     elim (cases_Bool (fit (length done) p s e)) [
-      | inl t ↦ (let w = within (length done) p s e t in row_from_same tasks done name _ _ _ _ _ _ (within_cap p w.processor) (within_cap s w.start) (within_cap e w.end))
+      | inl t ↦ (let w = within (length done) p s e t in row_from_same tasks done name _ _ _ _ _ _ (within_cap p w.processor) (within_cap s w.start)
+          (within_cap e w.end))
       | inr f ↦ (
           let g : fit (length done) (cap p) (cap s) (cap e) ≡ false = false_from_ne_true _ (λ t. (
           let w = within (length done) (cap p) (cap s) (cap e) t in
@@ -63,7 +68,8 @@ row_from_capped tasks done name p s e =
     ]
 
 -- the code's numbers are those of the words, capped
-numbers_capped : {B : Type 0} (f : ℕ → ℕ → ℕ → Option B) (a b c : Option ℕ) (p s e : ℕ) → Some p ≡ option_map cap a → Some s ≡ option_map cap b → Some e ≡ option_map cap c
+numbers_capped : {B : Type 0} (f : ℕ → ℕ → ℕ → Option B) (a b c : Option ℕ) (p s e : ℕ) → Some p ≡ option_map cap a → Some s ≡ option_map cap b →
+    Some e ≡ option_map cap c
     → ((p s e : ℕ) → f (cap p) (cap s) (cap e) ≡ f p s e) → f p s e ≡ option_and_then (λ p. option_and_then (λ s. option_and_then (λ e. f p s e) c) b) a
 numbers_capped f None b c p s e x y z h = (let n : Some p ≡ None = x in cc)
 numbers_capped f (Some i) None c p s e x y z h = (let n : Some s ≡ None = y in cc)
@@ -75,12 +81,14 @@ numbers_capped f (Some i) (Some j) (Some k) p s e x y z h =
     ap (λ w. f w s e) a ∙ (ap (λ w. f (cap i) w e) b ∙ (ap (λ w. f (cap i) (cap j) w) c ∙ h i j k))
 
 -- the row of a line, by the code's steps
-pub row_of_is : (tasks : List Task) (done : List Row) (line rest processor r start q end name : List ℕ) (p s e : ℕ) → Some rest ≡ after_word (codes "row") line → Some (processor, r) ≡ cut_space rest
+pub row_of_is : (tasks : List Task) (done : List Row) (line rest processor r start q end name : List ℕ) (p s e : ℕ) → Some rest ≡ after_word (codes "row")
+    line → Some (processor, r) ≡ cut_space rest
     → Some (start, q) ≡ cut_space r → Some (end, name) ≡ cut_space q → Some p ≡ option_map cap (number_of processor) → Some s ≡ option_map cap (number_of start)
     → Some e ≡ option_map cap (number_of end) → row_from tasks done p s e name ≡ row_of tasks done line
 row_of_is tasks done line rest processor r start q end name p s e a b c d x y z =
     rw (sym a, sym b, sym c, sym d)
-    (numbers_capped (λ p s e. row_from tasks done p s e name) (number_of processor) (number_of start) (number_of end) p s e x y z (row_from_capped tasks done name))
+    (numbers_capped (λ p s e. row_from tasks done p s e name) (number_of processor) (number_of start) (number_of end) p s e x y z (row_from_capped tasks
+    done name))
 
 -- ---- a name of no leaf
 
@@ -102,10 +110,12 @@ pub record ReadSoFar (tasks : List Task) (text : List ℕ) (done : List Row) (su
   pub few : length done ≤ 2097152
 
 -- before the first row
-pub read_none : (tasks : List Task) (text : List ℕ) (done : List Row) (sums : List ℕ) (n : ℕ) → done ≡ [] → sums ≡ replicate n 0 → n ≡ length tasks → ReadSoFar tasks text done sums text
+pub read_none : (tasks : List Task) (text : List ℕ) (done : List Row) (sums : List ℕ) (n : ℕ) → done ≡ [] → sums ≡ replicate n 0 → n ≡ length tasks →
+    ReadSoFar tasks text done sums text
 read_none tasks text done sums n none zeros many =
     let long : length sums ≡ n = ap length zeros ∙ length-replicate n 0 in
-    let zero_at : (j : ℕ) → j < length sums → get_or sums j 0 ≡ 0 = λ j low. ap (λ xs. get_or xs j 0) zeros ∙ get_or-replicate n j 0 0 (subst (λ m. j < m) long low) in
+    let zero_at : (j : ℕ) → j < length sums → get_or sums j 0 ≡ 0 = λ j low. ap (λ xs. get_or xs j 0) zeros ∙ get_or-replicate n j 0 0
+    (subst (λ m. j < m) long low) in
     subst (λ rows. ReadSoFar tasks text rows sums text) (sym none) (record {
       lines = refl;
       totals = λ j low. (zero_at j low, subst (λ m. m < 2 ^ 127) (sym (zero_at j low)) (omega arith));
@@ -123,10 +133,12 @@ row_line_fits count tasks len rows e few f most = omega arith
 pub some_left : (n : ℕ) → eqb n 0 ≡ false → 0 < n
 some_left n h = (let ne = eqb-false n 0 h in omega (arith, ne))
 
-pub none_left : (tasks : List Task) (done : List Row) (text : List ℕ) → eqb (length text) 0 ≡ true → (first : ℕ) → rows_from first tasks done (lines_of text) ≡ Ok (done, lines_of text)
+pub none_left : (tasks : List Task) (done : List Row) (text : List ℕ) → eqb (length text) 0 ≡ true → (first : ℕ) → rows_from first tasks done
+    (lines_of text) ≡ Ok (done, lines_of text)
 none_left tasks done text h first = rw (no_lines text (eqb-true _ _ h)) refl
 
-pub read_more : (tasks : List Task) (text rest later : List ℕ) (done more : List Row) (r : Row) (sums new : List ℕ) → ReadSoFar tasks text done sums rest → IsRead tasks done r
+pub read_more : (tasks : List Task) (text rest later : List ℕ) (done more : List Row) (r : Row) (sums new : List ℕ) → ReadSoFar tasks text done sums rest →
+    IsRead tasks done r
     → ((first : ℕ) → rows_from first tasks done (lines_of rest) ≡ rows_from first tasks (done ++ r ∷ []) (lines_of later)) → more ≡ done ++ r ∷ []
     → AreTotals (done ++ r ∷ []) new → length new ≡ length sums → ReadSoFar tasks text more new later
 read_more tasks text rest later done more r sums new so read next now totals long =

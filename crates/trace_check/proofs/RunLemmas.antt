@@ -29,7 +29,8 @@ lacks_at (b ∷ bs) (suc n) zero h l none = none.0
 lacks_at (b ∷ bs) (suc n) (suc k) h l none = lacks_at bs n k (omega (arith, h)) (omega (arith, l)) none.1
 
 -- the line up to a line feed, where no byte before it is one
-pub line_up_to : (bs : List ℕ) (n : ℕ) → n < length bs → get_or bs n 0 ≡ 10 → LacksFeed (take n bs) → IsWholeLine bs (take n bs) (take (length bs - (n + 1)) (drop (n + 1) bs))
+pub line_up_to : (bs : List ℕ) (n : ℕ) → n < length bs → get_or bs n 0 ≡ 10 → LacksFeed (take n bs) → IsWholeLine bs (take n bs) (take (length bs - (n + 1))
+    (drop (n + 1) bs))
 line_up_to bs n h at none =
     let few : n ≤ length bs = omega (arith, h) in
     whole_line_is bs n few (λ e. omega (arith, e, h)) (λ k l. lacks_at bs n k few l none) (λ below. at)
@@ -37,6 +38,8 @@ line_up_to bs n h at none =
 -- ---- one row more
 
 -- the row of the words of a whole line
-pub run_taken : (tasks : List Task) (done : List Row) (r : Row) (text : List ℕ) (w : RowWords) → SaysWholeRow text w → Some r ≡ row_from tasks done w.processor w.start w.end w.name.now
-    → (first : ℕ) (more : List ℕ) → rows_from first tasks done (lines_of (text ++ more)) ≡ rows_from first tasks (done ++ r ∷ []) (lines_of (w.later.now ++ more))
+pub run_taken : (tasks : List Task) (done : List Row) (r : Row) (text : List ℕ) (w : RowWords) → SaysWholeRow text w → Some r ≡ row_from tasks done
+    w.processor w.start w.end w.name.now
+    → (first : ℕ) (more : List ℕ) → rows_from first tasks done (lines_of (text ++ more)) ≡ rows_from first tasks (done ++ r ∷ [])
+    (lines_of (w.later.now ++ more))
 run_taken tasks done r text w says row = row_taken tasks done r text says.line w.later.now says.first says.begins (says.row tasks done ∙ sym row)

@@ -31,7 +31,8 @@ leaf_fits done r j (leaves.Task id) is below fits =
     elim (cases_Bool (eqb id.0 j)) [
       | inl t ↦ (
           let within : ticks_in id.0 done + (r.end - r.start) ≤ 2 ^ 127 - 1 = leb-true _ _ fits in
-          let here : ticks_in j done + (r.end - r.start) ≤ 2 ^ 127 - 1 = subst (λ (n : ℕ). ticks_in n done + (r.end - r.start) ≤ 2 ^ 127 - 1) (eqb-true id.0 j t) within in
+          let here : ticks_in j done + (r.end - r.start) ≤ 2 ^ 127 - 1 = subst (λ (n : ℕ). ticks_in n done + (r.end - r.start) ≤ 2 ^ 127 - 1)
+          (eqb-true id.0 j t) within in
           let own = own_ticks j r (ap (is_of_task j) is ∙ t) in
           omega (arith, here, own))
       | inr f ↦ (let none = other_ticks j r (ap (is_of_task j) is ∙ f) in omega (arith, below, none))

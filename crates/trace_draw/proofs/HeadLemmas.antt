@@ -15,15 +15,20 @@ past : (n m : ℕ) → m < n → leb n m ≡ false
 past n m more = false_from_ne_true _ (λ t. (let le = leb-true n m t in omega (arith, le, more)))
 
 -- and else twice it or five times it, where that is enough
-pub step_second : (tens : List ℕ) (i ten units : ℕ) → i < length tens → ten ≡ get_or tens i 0 → 12 * ten < units → units ≤ 24 * ten → step_among (drop i tens) units ≡ 2 * ten
+pub step_second : (tens : List ℕ) (i ten units : ℕ) → i < length tens → ten ≡ get_or tens i 0 → 12 * ten < units → units ≤ 24 * ten →
+    step_among (drop i tens) units ≡ 2 * ten
 step_second tens i ten units h is one enough =
     tens_from tens i units h
-    ∙ (cond-false _ _ _ (past units (12 * get_or tens i 0) (omega (arith, is, one))) ∙ (cond-true _ _ _ (le-leb units (24 * get_or tens i 0) (omega (arith, is, enough))) ∙ sym (ap (λ n. 2 * n) is)))
+    ∙ (cond-false _ _ _ (past units (12 * get_or tens i 0) (omega (arith, is, one)))
+    ∙ (cond-true _ _ _ (le-leb units (24 * get_or tens i 0) (omega (arith, is, enough))) ∙ sym (ap (λ n. 2 * n) is)))
 
-pub step_third : (tens : List ℕ) (i ten units : ℕ) → i < length tens → ten ≡ get_or tens i 0 → 12 * ten < units → 24 * ten < units → units ≤ 60 * ten → step_among (drop i tens) units ≡ 5 * ten
+pub step_third : (tens : List ℕ) (i ten units : ℕ) → i < length tens → ten ≡ get_or tens i 0 → 12 * ten < units → 24 * ten < units → units ≤ 60 * ten →
+    step_among (drop i tens) units ≡ 5 * ten
 step_third tens i ten units h is one two enough =
     tens_from tens i units h
-    ∙ (cond-false _ _ _ (past units (12 * get_or tens i 0) (omega (arith, is, one))) ∙ (cond-false _ _ _ (past units (24 * get_or tens i 0) (omega (arith, is, two))) ∙ (cond-true _ _ _ (le-leb units (60 * get_or tens i 0) (omega (arith, is, enough))) ∙ sym (ap (λ n. 5 * n) is))))
+    ∙ (cond-false _ _ _ (past units (12 * get_or tens i 0) (omega (arith, is, one)))
+    ∙ (cond-false _ _ _ (past units (24 * get_or tens i 0) (omega (arith, is, two)))
+    ∙ (cond-true _ _ _ (le-leb units (60 * get_or tens i 0) (omega (arith, is, enough))) ∙ sym (ap (λ n. 5 * n) is))))
 
 -- a ten of which five times isn't enough is passed by
 pub step_next : (tens : List ℕ) (i ten units : ℕ) → i < length tens → ten ≡ get_or tens i 0 → 12 * ten < units → 24 * ten < units → 60 * ten < units
@@ -31,5 +36,7 @@ pub step_next : (tens : List ℕ) (i ten units : ℕ) → i < length tens → te
 step_next tens i ten units h is one two five =
     let next : suc i ≡ i + 1 = omega arith in
     tens_from tens i units h
-    ∙ (cond-false _ _ _ (past units (12 * get_or tens i 0) (omega (arith, is, one))) ∙ (cond-false _ _ _ (past units (24 * get_or tens i 0) (omega (arith, is, two))) ∙ cond-false _ _ _ (past units (60 * get_or tens i 0) (omega (arith, is, five)))))
+    ∙ (cond-false _ _ _ (past units (12 * get_or tens i 0) (omega (arith, is, one)))
+    ∙ (cond-false _ _ _ (past units (24 * get_or tens i 0) (omega (arith, is, two))) ∙ cond-false _ _ _ (past units (60 * get_or tens i 0)
+    (omega (arith, is, five)))))
     ∙ ap (λ n. step_among (drop n tens) units) next

@@ -62,7 +62,8 @@ pub lines_capped : (w : ShownUnits) (horizon y a b due given done : ℕ) → due
 lines_capped w horizon y a b due given done small =
     ap (λ t. cond (leb (first_tick w) a) (shape_line (codes "<path class='r' d='M") (place w a) (codes " ") y (codes "v-290m-45 70l45-70l45 70'/>")) []
     ∷ cond t (box_line (codes " class='w'") (place w a) (y - 20) (place w b - place w a) 40)
-    (cond (leb b horizon && (ltb (first_tick w) done && leb done (end_tick w))) (shape_line (codes "<circle class='o' cx='") (place w done) (codes "' cy='") y (codes "' r='40'/>")) []) ∷ [])
+    (cond (leb b horizon && (ltb (first_tick w) done && leb done (end_tick w))) (shape_line (codes "<circle class='o' cx='") (place w done) (codes "' cy='")
+    y (codes "' r='40'/>")) []) ∷ [])
     (wrong_capped horizon b due given small)
 
 -- ---- ticks of a lawful task and of the schedule
@@ -86,7 +87,8 @@ pub start_is : (n scale : ℕ) (t u : Task) (k : ℕ) → n ≡ scale → t ≡ 
 start_is n scale t u k a b = ap (λ x. period_start x t k) a ∙ ap (λ x. period_start scale x k) b
 
 -- the lines of equal places and ticks, with the ticks that were given capped
-pub lines_are : (w : ShownUnits) (horizon stop y top a begin b end due owed given g done d : ℕ) → horizon ≡ stop → y ≡ top → a ≡ begin → b ≡ end → due ≡ owed → given ≡ min g (2 ^ 128 - 1) → done ≡ d
+pub lines_are : (w : ShownUnits) (horizon stop y top a begin b end due owed given g done d : ℕ) → horizon ≡ stop → y ≡ top → a ≡ begin → b ≡ end →
+    due ≡ owed → given ≡ min g (2 ^ 128 - 1) → done ≡ d
     → owed < 2 ^ 128 - 1 → period_lines w horizon y a b due given done ≡ period_lines w stop top begin end owed g d
 lines_are w horizon stop y top a begin b end due owed given g done d eh ey ea eb ed eg ef small =
     ap (λ x. period_lines w x y a b due given done) eh

@@ -21,7 +21,8 @@ fault_framed t w line kind first i at within is =
     let below : 6 + length t.set.tasks ≤ line = subst (λ n. n ≤ line) at within in
     cond-true (leb (6 + length t.set.tasks) line) _ _ (le-leb _ _ below) ∙ ap (framed_row t w) (ap (λ n. line - n) (sym at) ∙ sym is)
 
-pub fault_before : (t : Trace) (w : ShownUnits) (line : ℕ) (kind : FaultKind) (first : ℕ) → first ≡ 6 + length t.set.tasks → (first ≤ line → ⊥) → fault_text t w (Fault line kind) ≡ []
+pub fault_before : (t : Trace) (w : ShownUnits) (line : ℕ) (kind : FaultKind) (first : ℕ) → first ≡ 6 + length t.set.tasks → (first ≤ line → ⊥) →
+    fault_text t w (Fault line kind) ≡ []
 fault_before t w line kind first at before =
     cond-false (leb (6 + length t.set.tasks) line) _ _ (false_from_ne_true _ (λ h. before (subst (λ n. n ≤ line) (sym at) (leb-true _ _ h))))
 
@@ -32,21 +33,25 @@ framed_past t w i past =
     absurd (omega (arith, within, past)))))
 
 -- where the window doesn't reach the row, it has no frames, and else it has those of that row
-pub framed_apart : (t : Trace) (w : ShownUnits) (rows : List Row) (i : ℕ) (b : Bool) → rows ≡ t.rows → b ≡ reaches w (row_at rows i) → b ≡ false → framed_row t w i ≡ []
+pub framed_apart : (t : Trace) (w : ShownUnits) (rows : List Row) (i : ℕ) (b : Bool) → rows ≡ t.rows → b ≡ reaches w (row_at rows i) → b ≡ false →
+    framed_row t w i ≡ []
 framed_apart t w rows i b same is off =
     let apart : reaches w (row_at t.rows i) ≡ false = ap (λ (rs : List Row). reaches w (row_at rs i)) (sym same) ∙ sym is ∙ off in
-    cond-false (ltb i (length t.rows) && reaches w (row_at t.rows i)) _ _ (false_from_ne_true _ (λ h. both_ways _ apart (and_parts (ltb i (length t.rows)) (reaches w (row_at t.rows i)) h).1))
+    cond-false (ltb i (length t.rows) && reaches w (row_at t.rows i)) _ _ (false_from_ne_true _ (λ h. both_ways _ apart (and_parts (ltb i (length t.rows))
+    (reaches w (row_at t.rows i)) h).1))
 
 pub framed_shown : (t : Trace) (w : ShownUnits) (i : ℕ) → i < length t.rows → reaches w (row_at t.rows i) ≡ true
     → framed_row t w i ≡ concat (frame_lines t.set (row_at t.rows i) (place w (row_at t.rows i).start) (span w (row_at t.rows i).start (row_at t.rows i).end))
 framed_shown t w i within is = cond-true (ltb i (length t.rows) && reaches w (row_at t.rows i)) _ _ (and_from _ _ (lt-ltb i (length t.rows) within) is)
 
-wrote_same : {T E : Type 0} (a b : Option (List ℕ)) (text : SetContents → List Row → List ℕ) (known told : SetContents) (rows shown : List Row) (r : Result T E) → told ≡ known → shown ≡ rows
+wrote_same : {T E : Type 0} (a b : Option (List ℕ)) (text : SetContents → List Row → List ℕ) (known told : SetContents) (rows shown : List Row)
+    (r : Result T E) → told ≡ known → shown ≡ rows
     → Wrote a b (text told shown) r → Wrote a b (text known rows) r
 wrote_same a b text known told rows shown r same these wrote =
     subst (λ (xs : List Row). Wrote a b (text known xs) r) these (subst (λ (x : SetContents). Wrote a b (text x shown) r) same wrote)
 
 -- a write of rows of a set, where these are the rows and the set of a trace
-pub rows_wrote : {T E : Type 0} (a b : Option (List ℕ)) (part : Part) (w : ShownUnits) (known told : SetContents) (rows shown : List Row) (r : Result T E) → told ≡ known → shown ≡ rows
+pub rows_wrote : {T E : Type 0} (a b : Option (List ℕ)) (part : Part) (w : ShownUnits) (known told : SetContents) (rows shown : List Row) (r : Result T E) →
+    told ≡ known → shown ≡ rows
     → Wrote a b (rows_text part told w shown) r → Wrote a b (rows_text part known w rows) r
 rows_wrote a b part w = wrote_same a b (λ s rows. rows_text part s w rows)

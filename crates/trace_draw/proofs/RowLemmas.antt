@@ -1,5 +1,6 @@
 -- Of the rows that reach into a window the first ones are drawn.
-use Rattle.std.proofs.Common.{ℕ, Option, Result, [], zero, suc, ◌+◌, ◌<◌, ◌≤◌, ◌≡◌, Bool, true, false, cond, min, List, ◌∷◌, ◌++◌, take, drop, get_or, filter, length, length-append, drop-cons, sym, ap, ◌∙◌, subst, arith}
+use Rattle.std.proofs.Common.{ℕ, Option, Result, [], zero, suc, ◌+◌, ◌<◌, ◌≤◌, ◌≡◌, Bool, true, false, cond, min, List, ◌∷◌, ◌++◌, take, drop, get_or}
+use Rattle.std.proofs.Common.{filter, length, length-append, drop-cons, sym, ap, ◌∙◌, subst, arith}
 use Rattle.std.proofs.lemmas.Bool.{cond-true, cond-false}
 use Rattle.std.proofs.lemmas.List.{take-append-drop, take_all, length-take, get_or-take}
 use Rattle.std.proofs.lemmas.List.Elements.{filter-append}
@@ -27,7 +28,8 @@ filter_split p xs i x within at passes =
     ∙ ap (λ ys. filter p (take i xs) ++ ys) (cond-true (p x) (x ∷ filter p (drop (suc i) xs)) (filter p (drop (suc i) xs)) passes)
 
 -- it stands among the first n that pass, where fewer passed before it
-pub stands_first : {X : Type 0} (p : X → Bool) (xs : List X) (i n : ℕ) (x : X) → i < length xs → x ≡ get_or xs i x → p x ≡ true → length (filter p (take i xs)) < n
+pub stands_first : {X : Type 0} (p : X → Bool) (xs : List X) (i n : ℕ) (x : X) → i < length xs → x ≡ get_or xs i x → p x ≡ true →
+    length (filter p (take i xs)) < n
     → (length (filter p (take i xs)) < length (take n (filter p xs))) × (x ≡ get_or (take n (filter p xs)) (length (filter p (take i xs))) x)
 stands_first p xs i n x within at passes few =
     let before = filter p (take i xs) in
@@ -50,15 +52,21 @@ text_wrote : {T E : Type 0} (a b : Option (List ℕ)) (xs ys : List ℕ) (result
 text_wrote a b xs ys result same wrote = subst (λ text. Wrote a b text result) same wrote
 
 -- the lines of a part of a row were written
-pub boxes_wrote : {T E : Type 0} (a b : Option (List ℕ)) (part : Part) (s : SetContents) (w : ShownUnits) (j : ℕ) (r : Row) (x width : ℕ) (lines : List (List ℕ)) (result : Result T E)
-    → part ≡ Boxes → x ≡ place w r.start → width ≡ span w r.start r.end → lines ≡ boxes_lines s j r x width → Wrote a b (concat lines) result → Wrote a b (task_row_text part s w j r) result
+pub boxes_wrote : {T E : Type 0} (a b : Option (List ℕ)) (part : Part) (s : SetContents) (w : ShownUnits) (j : ℕ) (r : Row) (x width : ℕ)
+    (lines : List (List ℕ)) (result : Result T E)
+    → part ≡ Boxes → x ≡ place w r.start → width ≡ span w r.start r.end → lines ≡ boxes_lines s j r x width → Wrote a b (concat lines) result →
+    Wrote a b (task_row_text part s w j r) result
 boxes_wrote a b part s w j r x width lines result is left wide told wrote =
-    text_wrote a b _ _ result (ap concat told ∙ ap (λ n. concat (boxes_lines s j r n width)) left ∙ ap (λ n. concat (boxes_lines s j r (place w r.start) n)) wide ∙ ap (λ p. task_row_text p s w j r) (sym is)) wrote
+    text_wrote a b _ _ result (ap concat told ∙ ap (λ n. concat (boxes_lines s j r n width)) left ∙ ap (λ n. concat (boxes_lines s j r (place w r.start) n))
+    wide ∙ ap (λ p. task_row_text p s w j r) (sym is)) wrote
 
-pub words_wrote : {T E : Type 0} (a b : Option (List ℕ)) (part : Part) (s : SetContents) (w : ShownUnits) (j : ℕ) (r : Row) (x width : ℕ) (lines : List (List ℕ)) (result : Result T E)
-    → part ≡ Words → x ≡ place w r.start → width ≡ span w r.start r.end → lines ≡ words_lines s j r x width → Wrote a b (concat lines) result → Wrote a b (task_row_text part s w j r) result
+pub words_wrote : {T E : Type 0} (a b : Option (List ℕ)) (part : Part) (s : SetContents) (w : ShownUnits) (j : ℕ) (r : Row) (x width : ℕ)
+    (lines : List (List ℕ)) (result : Result T E)
+    → part ≡ Words → x ≡ place w r.start → width ≡ span w r.start r.end → lines ≡ words_lines s j r x width → Wrote a b (concat lines) result →
+    Wrote a b (task_row_text part s w j r) result
 words_wrote a b part s w j r x width lines result is left wide told wrote =
-    text_wrote a b _ _ result (ap concat told ∙ ap (λ n. concat (words_lines s j r n width)) left ∙ ap (λ n. concat (words_lines s j r (place w r.start) n)) wide ∙ ap (λ p. task_row_text p s w j r) (sym is)) wrote
+    text_wrote a b _ _ result (ap concat told ∙ ap (λ n. concat (words_lines s j r n width)) left ∙ ap (λ n. concat (words_lines s j r (place w r.start) n))
+    wide ∙ ap (λ p. task_row_text p s w j r) (sym is)) wrote
 
 -- ---- rows that are gone through, of which so many were drawn
 

@@ -25,7 +25,8 @@ order_stands : (rows : List Row) (es : List Entry) → IsOrder task_key rows es 
 order_stands rows es order =
     order_has task_key (StandsFor rows) rows es order (λ i c h e.
     let here : i ≡ 0 + i = omega arith in
-    subst (λ w. StandsFor rows (record { key = c; start = (row_at rows i).start; place = w; end = (row_at rows i).end })) here (record { place = h; start = refl; end = refl }))
+    subst (λ w. StandsFor rows (record { key = c; start = (row_at rows i).start; place = w; end = (row_at rows i).end })) here
+    (record { place = h; start = refl; end = refl }))
 
 part_stands : (rows : List Row) (j : ℕ) (es : List Entry) → AllByRecursion (StandsFor rows) es → AllByRecursion (StandsFor rows) (part j es)
 part_stands rows j [] all = tt
@@ -44,7 +45,8 @@ given_places : (rows : List Row) (a b : ℕ) (es : List Entry) → AllByRecursio
 given_places rows a b [] all = refl
 given_places rows a b (e ∷ es) all =
     ap (λ n. overlap n (row_at rows e.place).end a b + given_at rows (places es) a b) (sym all.0.start)
-    ∙ (ap (λ n. overlap e.start n a b + given_at rows (places es) a b) (sym all.0.end) ∙ ap (λ n. overlap e.start e.end a b + n) (given_places rows a b es all.1))
+    ∙ (ap (λ n. overlap e.start n a b + given_at rows (places es) a b) (sym all.0.end) ∙ ap (λ n. overlap e.start e.end a b + n) (given_places rows a b es
+    all.1))
 
 reach_places : (rows : List Row) (b : ℕ) (es : List Entry) → AllByRecursion (StandsFor rows) es → reach_at rows (places es) b ≡ reach_before es b
 reach_places rows b [] all = refl
@@ -54,7 +56,8 @@ reach_places rows b (e ∷ es) all =
     ∙ ap (λ n. cond (ltb e.start b) (max e.end n) n) (reach_places rows b es all.1))
 
 -- each place is that of a row
-pub places_within : (rows : List Row) (j : ℕ) (ordered : List ℕ) → IsOrderOfTask rows j ordered → (i : ℕ) → i < length ordered → get_or ordered i 0 < length rows
+pub places_within : (rows : List Row) (j : ℕ) (ordered : List ℕ) → IsOrderOfTask rows j ordered → (i : ℕ) → i < length ordered → get_or ordered i 0 < length
+    rows
 places_within rows j ordered given i h =
     let all = within_places rows (part j given.0) (part_stands rows j given.0 (order_stands rows given.0 given.1)) in
     all_get (λ k. k < length rows) ordered i 0 (subst (AllByRecursion (λ k. k < length rows)) (sym given.2) all) h
@@ -66,8 +69,13 @@ task_given rows j a b ordered given =
     ap (λ l. given_at rows l a b) given.2 ∙ (given_places rows a b (part j given.0) all ∙ task_part_ticks j a b rows given.0 given.1.same)
 
 -- the end of what was done
-pub task_done : (rows : List Row) (j a b : ℕ) (ordered : List ℕ) → IsOrderOfTask rows j ordered → a ≤ b → max a (min b (reach_at rows ordered b)) ≡ finish_between rows j a b
+pub task_done : (rows : List Row) (j a b : ℕ) (ordered : List ℕ) → IsOrderOfTask rows j ordered → a ≤ b → max a (min b (reach_at rows ordered b))
+    ≡ finish_between rows j a b
 task_done rows j a b ordered given h =
     let all = part_stands rows j given.0 (order_stands rows given.0 given.1) in
-    let reach = ap (λ l. reach_at rows l b) given.2 ∙ (reach_places rows b (part j given.0) all ∙ reach_mine rows j b (part j given.0) (given.0, given.1, refl)) in
+    let reach = ap (λ l. reach_at rows l b) given.2 ∙ (reach_places rows b (part j given.0) all ∙ reach_mine rows j b (part j given.0) (
+      given.0,
+      given.1,
+      refl,
+    )) in
     ap (λ n. max a (min b n)) reach ∙ sym (finish_reach rows j a b h)

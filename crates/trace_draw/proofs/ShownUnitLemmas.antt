@@ -1,7 +1,9 @@
 -- Which window is shown: fewer rows reach into fewer units, so halving finds the most units.
-use Rattle.std.proofs.Common.{ℕ, zero, suc, ◌+◌, ◌-◌, ◌*◌, ◌<◌, ◌≤◌, ◌≡◌, ◌⊎◌, inl, inr, Bool, true, false, ltb, List, [], ◌∷◌, filter, length, sym, ap, ◌∙◌, arith}
+use Rattle.std.proofs.Common.{ℕ, zero, suc, ◌+◌, ◌-◌, ◌*◌, ◌<◌, ◌≤◌, ◌≡◌, ◌⊎◌, inl, inr, Bool, true, false, ltb, List, [], ◌∷◌, filter, length, sym}
+use Rattle.std.proofs.Common.{ap, ◌∙◌, arith}
 use Rattle.std.proofs.Math.Nat.{mul-le-mul_right}
-use Rattle.std.proofs.lemmas.Bool.{cases_Bool, cases_lt, both_ways, and_parts, and_from, cond-true, cond-false, leb-true, le-leb, ltb-true, lt-ltb, false_from_ne_true}
+use Rattle.std.proofs.lemmas.Bool.{cases_Bool, cases_lt, both_ways, and_parts, and_from, cond-true, cond-false, leb-true, le-leb, ltb-true, lt-ltb}
+use Rattle.std.proofs.lemmas.Bool.{false_from_ne_true}
 use Rattle.sched_base.specs.declared.rows.Row.{Row}
 use Rattle.trace_check.specs.Traces.{Trace}
 use Rattle.trace_draw.specs.declared.shown_units.ShownUnits.{ShownUnits}
@@ -47,7 +49,8 @@ pub none_from : (t : Trace) (a : Asked) (m : ℕ) → has_few t a m ≡ false �
 none_from t a m fails n le = false_from_ne_true _ (λ passes. both_ways _ fails (few_in_less t a m n le passes))
 
 -- the greatest that passes lies below those that don't
-pub greatest_below : (test : ℕ → Bool) (high middle : ℕ) → 1 ≤ middle → middle ≤ high + 1 → ((n : ℕ) → middle ≤ n → test n ≡ false) → greatest_passing test high ≡ greatest_passing test (middle - 1)
+pub greatest_below : (test : ℕ → Bool) (high middle : ℕ) → 1 ≤ middle → middle ≤ high + 1 → ((n : ℕ) → middle ≤ n → test n ≡ false) →
+    greatest_passing test high ≡ greatest_passing test (middle - 1)
 greatest_below test zero middle some within none = (let low : middle - 1 ≡ 0 = omega (arith, some, within) in ap (greatest_passing test) (sym low))
 greatest_below test (suc high) middle some within none =
     elim (cases_lt high (middle - 1)) [

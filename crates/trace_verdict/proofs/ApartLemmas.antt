@@ -1,5 +1,6 @@
 -- Rows that are gone through by a key: where they are as many as all that have one, no two of one key overlap.
-use Rattle.std.proofs.Common.{ℕ, ◌+◌, ◌≤◌, ◌≡◌, true, List, [], ◌∷◌, ◌++◌, length, Option, Some, None, refl, sym, subst, arith, append_assoc, append-nil, length-append}
+use Rattle.std.proofs.Common.{ℕ, ◌+◌, ◌≤◌, ◌≡◌, true, List, [], ◌∷◌, ◌++◌, length, Option, Some, None, refl, sym, subst, arith, append_assoc}
+use Rattle.std.proofs.Common.{append-nil, length-append}
 use Rattle.std.specs.List.{AllByRecursion}
 use Rattle.sched_base.specs.declared.rows.Row.{Row}
 use Rattle.trace_verdict.specs.declared.apart_rows.DealtCount.{DealtCount}
@@ -16,7 +17,8 @@ use Rattle.trace_verdict.proofs.StackLemmas.{climbs_differ, climbs_sorted, climb
 pub are_none : (key : Row → Option ℕ) (rows : List Row) (d : DealtCount) → d.count ≡ 0 → d.last ≡ None → AreDealt key rows d
 are_none key rows d count last = record { entries = []; many = count; own = tt; climbs = λ rest a. subst (λ l. ClimbsAfter l rest) last a }
 
-pub are_more : (key : Row → Option ℕ) (rows : List Row) (old new : DealtCount) (e : Entry) → AreDealt key rows old → IsEntryOf key rows e → comes_up old.last e ≡ true → new.count ≡ old.count + 1 → new.last ≡ Some e → AreDealt key rows new
+pub are_more : (key : Row → Option ℕ) (rows : List Row) (old new : DealtCount) (e : Entry) → AreDealt key rows old → IsEntryOf key rows e →
+    comes_up old.last e ≡ true → new.count ≡ old.count + 1 → new.last ≡ Some e → AreDealt key rows new
 are_more key rows old new e d own up count last =
     let size = length-append d.entries (e ∷ []) in
     let had = d.many in
@@ -41,10 +43,16 @@ are_few key rows d a =
     omega (arith, few, most, many)
 
 -- where they are all rows that have a key, no two of one overlap
-pub are_apart : (key : Row → Option ℕ) (rows : List Row) (d : DealtCount) → AreDealt key rows d → length (entries_from key 0 rows) ≤ d.count → IsFirstHit key rows (length rows)
+pub are_apart : (key : Row → Option ℕ) (rows : List Row) (d : DealtCount) → AreDealt key rows d → length (entries_from key 0 rows) ≤ d.count →
+    IsFirstHit key rows (length rows)
 are_apart key rows d a all =
     let es : List Entry = a.entries in
     let climbs : Climbs es = all_climb key rows d a in
     let many = a.many in
-    let order : IsOrder key rows es = record { sorted = climbs_sorted es climbs; same = fills es (entries_from key 0 rows) (climbs_differ es climbs) (has_all key rows es a.own) (omega (arith, many, all)) } in
+    let order : IsOrder key rows es =
+    record {
+      sorted = climbs_sorted es climbs;
+      same = fills es (entries_from key 0 rows) (climbs_differ es climbs) (has_all key rows es a.own)
+          (omega (arith, many, all));
+    } in
     hit_from key rows es (length rows) None refl order (climbs_distinct (length rows) es climbs)

@@ -1,5 +1,6 @@
 -- The walk over a task's part against the periods of the task.
-use Rattle.std.proofs.Common.{zero, suc, ℕ, ◌+◌, ◌*◌, ◌^◌, ◌<◌, ◌≤◌, ◌≡◌, ◌≢◌, ◌⊎◌, inl, inr, Bool, List, [], ◌∷◌, length, get_or, take, drop, cond, eqb, ltb, leb, not, sym, refl, ap, ◌∙◌, subst, arith}
+use Rattle.std.proofs.Common.{zero, suc, ℕ, ◌+◌, ◌*◌, ◌^◌, ◌<◌, ◌≤◌, ◌≡◌, ◌≢◌, ◌⊎◌, inl, inr, Bool, List, [], ◌∷◌, length, get_or, take, drop, cond}
+use Rattle.std.proofs.Common.{eqb, ltb, leb, not, sym, refl, ap, ◌∙◌, subst, arith}
 use Rattle.std.proofs.Math.Nat.{add-mul, mul_assoc, mul-le-mul_right}
 use Rattle.std.specs.List.{IsDistinct}
 use Rattle.std.specs.List.Sorted.{IsPermutation}
@@ -31,7 +32,8 @@ Lacks p es k =
     ⊎ ((p.stop < bound_at p (k + 1)) × (p.due < ticks_in es (bound_at p k) (bound_at p (k + 1))))
 
 abbrev pub lacks : Periods → List Entry → ℕ → Bool
-lacks p es k = cond (leb (bound_at p (k + 1)) p.stop) (not (eqb (ticks_in es (bound_at p k) (bound_at p (k + 1))) p.due)) (ltb p.due (ticks_in es (bound_at p k) (bound_at p (k + 1))))
+lacks p es k = cond (leb (bound_at p (k + 1)) p.stop) (not (eqb (ticks_in es (bound_at p k) (bound_at p (k + 1))) p.due))
+    (ltb p.due (ticks_in es (bound_at p k) (bound_at p (k + 1))))
 
 pub none_lacks : (p : Periods) (es : List Entry) → IsSupplied p es → (k : ℕ) → Lacks p es k → ⊥
 none_lacks p es s k h =
@@ -40,7 +42,8 @@ none_lacks p es s k h =
       | inr open_end ↦ (let b = s.no_more k in omega (arith, b, open_end.1))
     ]
 
-pub lacks_or_not : (p : Periods) (es : List Entry) (k : ℕ) → Lacks p es k ⊎ ((bound_at p (k + 1) ≤ p.stop → ticks_in es (bound_at p k) (bound_at p (k + 1)) ≡ p.due) × (ticks_in es (bound_at p k) (bound_at p (k + 1)) ≤ p.due))
+pub lacks_or_not : (p : Periods) (es : List Entry) (k : ℕ) → Lacks p es k ⊎ ((bound_at p (k + 1) ≤ p.stop → ticks_in es (bound_at p k) (bound_at p (k + 1))
+    ≡ p.due) × (ticks_in es (bound_at p k) (bound_at p (k + 1)) ≤ p.due))
 lacks_or_not p es k =
     elim (cases_lt p.stop (bound_at p (k + 1))) [
       | inl late ↦ (elim (cases_lt p.due (ticks_in es (bound_at p k) (bound_at p (k + 1)))) [
@@ -54,7 +57,8 @@ lacks_or_not p es k =
     ]
 
 pub search_lacks : (p : Periods) (es : List Entry) (n : ℕ) → ((k : ℕ) × Lacks p es k)
-    ⊎ ((k : ℕ) → k < n → (bound_at p (k + 1) ≤ p.stop → ticks_in es (bound_at p k) (bound_at p (k + 1)) ≡ p.due) × (ticks_in es (bound_at p k) (bound_at p (k + 1)) ≤ p.due))
+    ⊎ ((k : ℕ) → k < n → (bound_at p (k + 1) ≤ p.stop → ticks_in es (bound_at p k) (bound_at p (k + 1)) ≡ p.due)
+    × (ticks_in es (bound_at p k) (bound_at p (k + 1)) ≤ p.due))
 search_lacks p es zero = inr (λ k h. absurd (omega arith))
 search_lacks p es (suc n) =
     elim (search_lacks p es n) [
@@ -64,7 +68,8 @@ search_lacks p es (suc n) =
         | inr fine ↦ inr (λ k h. elim (cases_lt k n) [
           | inl below ↦ none k below
           | inr there ↦ (let e : n ≡ k = omega (arith, h, there) in
-              subst (λ w. (bound_at p (w + 1) ≤ p.stop → ticks_in es (bound_at p w) (bound_at p (w + 1)) ≡ p.due) × (ticks_in es (bound_at p w) (bound_at p (w + 1)) ≤ p.due)) e fine)
+              subst (λ w. (bound_at p (w + 1) ≤ p.stop → ticks_in es (bound_at p w) (bound_at p (w + 1)) ≡ p.due)
+              × (ticks_in es (bound_at p w) (bound_at p (w + 1)) ≤ p.due)) e fine)
         ])
       ])
     ]
@@ -103,8 +108,10 @@ misses_from s l rs es j k perm h =
     let p : Periods = periods_of s l (task_at s.tasks j) in
     let low : period_start l (task_at s.tasks j) k ≡ bound_at p k = starts_at s l (task_at s.tasks j) k in
     let high : period_start l (task_at s.tasks j) (k + 1) ≡ bound_at p (k + 1) = starts_at s l (task_at s.tasks j) (k + 1) in
-    let same : ticks_in (part j es) (bound_at p k) (bound_at p (k + 1)) ≡ task_ticks rs j (period_start l (task_at s.tasks j) k) (period_start l (task_at s.tasks j) (k + 1))
-    = task_part_ticks j (bound_at p k) (bound_at p (k + 1)) rs es perm ∙ sym (ap (λ a. task_ticks rs j a (period_start l (task_at s.tasks j) (k + 1))) low ∙ ap (λ b. task_ticks rs j (bound_at p k) b) high) in
+    let same : ticks_in (part j es) (bound_at p k) (bound_at p (k + 1)) ≡ task_ticks rs j (period_start l (task_at s.tasks j) k)
+    (period_start l (task_at s.tasks j) (k + 1))
+    = task_part_ticks j (bound_at p k) (bound_at p (k + 1)) rs es perm ∙ sym (ap (λ a. task_ticks rs j a (period_start l (task_at s.tasks j) (k + 1))) low
+    ∙ ap (λ b. task_ticks rs j (bound_at p k) b) high) in
     elim h [
       | inl ended ↦ inl (omega (arith, high, ended.0), (λ e. ended.1 (same ∙ e)))
       | inr open_end ↦ inr (omega (arith, high, open_end.0), omega (arith, same, open_end.1))
@@ -116,18 +123,22 @@ lacks_from s l rs es j k perm h =
     let p : Periods = periods_of s l (task_at s.tasks j) in
     let low : period_start l (task_at s.tasks j) k ≡ bound_at p k = starts_at s l (task_at s.tasks j) k in
     let high : period_start l (task_at s.tasks j) (k + 1) ≡ bound_at p (k + 1) = starts_at s l (task_at s.tasks j) (k + 1) in
-    let same : ticks_in (part j es) (bound_at p k) (bound_at p (k + 1)) ≡ task_ticks rs j (period_start l (task_at s.tasks j) k) (period_start l (task_at s.tasks j) (k + 1))
-    = task_part_ticks j (bound_at p k) (bound_at p (k + 1)) rs es perm ∙ sym (ap (λ a. task_ticks rs j a (period_start l (task_at s.tasks j) (k + 1))) low ∙ ap (λ b. task_ticks rs j (bound_at p k) b) high) in
+    let same : ticks_in (part j es) (bound_at p k) (bound_at p (k + 1)) ≡ task_ticks rs j (period_start l (task_at s.tasks j) k)
+    (period_start l (task_at s.tasks j) (k + 1))
+    = task_part_ticks j (bound_at p k) (bound_at p (k + 1)) rs es perm ∙ sym (ap (λ a. task_ticks rs j a (period_start l (task_at s.tasks j) (k + 1))) low
+    ∙ ap (λ b. task_ticks rs j (bound_at p k) b) high) in
     elim h [
       | inl ended ↦ inl (omega (arith, high, ended.0), (λ e. ended.1 (sym same ∙ e)))
       | inr open_end ↦ inr (omega (arith, high, open_end.0), omega (arith, same, open_end.1))
     ]
 
 pub part_stands : (s : SetContents) (l n : ℕ) (es : List Entry) (j : ℕ) → IsAllWithin s l n es → Rising es → IsDistinct (clash n) es
-    → ((periods_of s l (task_at s.tasks j)).base ≤ (periods_of s l (task_at s.tasks j)).stop → Follows (periods_of s l (task_at s.tasks j)).stop (periods_of s l (task_at s.tasks j)).base (part j es))
+    → ((periods_of s l (task_at s.tasks j)).base ≤ (periods_of s l (task_at s.tasks j)).stop → Follows (periods_of s l (task_at s.tasks j)).stop
+    (periods_of s l (task_at s.tasks j)).base (part j es))
     × ((periods_of s l (task_at s.tasks j)).stop < (periods_of s l (task_at s.tasks j)).base → part j es ≡ [])
 part_stands s l n es j w r d = (
-  (λ b. follows_part n (s.horizon * l) (λ i. (task_at s.tasks i).offset * l) j ((task_at s.tasks j).offset * l) es b w r d (starts_at_base n (s.horizon * l) (λ i. (task_at s.tasks i).offset * l) j es w)),
+  (λ b. follows_part n (s.horizon * l) (λ i. (task_at s.tasks i).offset * l) j ((task_at s.tasks j).offset * l) es b w r d (starts_at_base n (s.horizon * l)
+      (λ i. (task_at s.tasks i).offset * l) j es w)),
   (λ b. no_part n (s.horizon * l) (λ i. (task_at s.tasks i).offset * l) j es w b),
 )
 
@@ -155,8 +166,10 @@ lawful_periods s l j law some small h =
       period_fits = units_fit (task_at s.tasks j).period l t.period_fits small;
     }
 
-pub not_supplied : (s : SetContents) (l n : ℕ) (rs : List Row) (es : List Entry) (j : ℕ) → IsLawful s → 0 < l → l ≤ 2 ^ 94 → j < length s.tasks → IsPermutation (entries_from task_key 0 rs) es
-    → IsAllWithin s l n es → Rising es → IsDistinct (clash n) es → (IsSupplied (periods_of s l (task_at s.tasks j)) (part j es) → ⊥) → (k : ℕ) × MissesDue s l rs j k
+pub not_supplied : (s : SetContents) (l n : ℕ) (rs : List Row) (es : List Entry) (j : ℕ) → IsLawful s → 0 < l → l ≤ 2 ^ 94 → j < length s.tasks →
+    IsPermutation (entries_from task_key 0 rs) es
+    → IsAllWithin s l n es → Rising es → IsDistinct (clash n) es → (IsSupplied (periods_of s l (task_at s.tasks j)) (part j es) → ⊥) → (k : ℕ)
+    × MissesDue s l rs j k
 not_supplied s l n rs es j law some small h perm w r d no_supply =
     let stands = part_stands s l n es j w r d in
     let p : Periods = periods_of s l (task_at s.tasks j) in
@@ -203,11 +216,14 @@ pub reaches_first : (s : SetContents) (l : ℕ) (rs : List Row) (es : List Entry
 reaches_first s l rs es r = record { rising = r; from = from_all es; same = λ i h. refl; met = λ i k h m. omega (arith, h) }
 
 -- what stands at the front is the part of the next task
-pub reaches_mine : (s : SetContents) (l : ℕ) (rs : List Row) (es : List Entry) (j n : ℕ) (rest mine : List Entry) → Reaches s l rs es j rest → AreFirstWithKey j rest n → mine ≡ take n rest → mine ≡ part j es
+pub reaches_mine : (s : SetContents) (l : ℕ) (rs : List Row) (es : List Entry) (j n : ℕ) (rest mine : List Entry) → Reaches s l rs es j rest →
+    AreFirstWithKey j rest n → mine ≡ take n rest → mine ≡ part j es
 reaches_mine s l rs es j n rest mine r f e = e ∙ ((split_front j rest n f r.rising r.from).front ∙ r.same j (omega arith))
 
-pub reaches_next : (s : SetContents) (l : ℕ) (rs : List Row) (es : List Entry) (j n : ℕ) (rest mine later : List Entry) (p : Periods) → Reaches s l rs es j rest → AreFirstWithKey j rest n
-    → IsPermutation (entries_from task_key 0 rs) es → mine ≡ take n rest → later ≡ drop n rest → p ≡ periods_of s l (task_at s.tasks j) → IsSupplied p mine → Reaches s l rs es (j + 1) later
+pub reaches_next : (s : SetContents) (l : ℕ) (rs : List Row) (es : List Entry) (j n : ℕ) (rest mine later : List Entry) (p : Periods) →
+    Reaches s l rs es j rest → AreFirstWithKey j rest n
+    → IsPermutation (entries_from task_key 0 rs) es → mine ≡ take n rest → later ≡ drop n rest → p ≡ periods_of s l (task_at s.tasks j) →
+    IsSupplied p mine → Reaches s l rs es (j + 1) later
 reaches_next s l rs es j n rest mine later p r f perm front back e supplied =
     let split = split_front j rest n f r.rising r.from in
     let due = supplied_as s l es mine j p e (reaches_mine s l rs es j n rest mine r f front) supplied in

@@ -1,5 +1,6 @@
 -- Rows as entries: two of one key overlap among the entries exactly where they do among the rows.
-use Rattle.std.proofs.Common.{zero, suc, ℕ, ◌+◌, ◌<◌, ◌≤◌, ◌≡◌, inl, inr, Bool, true, false, List, [], ◌∷◌, ◌++◌, length, take, append-nil, add-zero, append_assoc, get_or, Option, Some, None, ◌&&◌, ltb, sym, refl, ap, ◌∙◌, subst, arith}
+use Rattle.std.proofs.Common.{zero, suc, ℕ, ◌+◌, ◌<◌, ◌≤◌, ◌≡◌, inl, inr, Bool, true, false, List, [], ◌∷◌, ◌++◌, length, take, append-nil, add-zero}
+use Rattle.std.proofs.Common.{append_assoc, get_or, Option, Some, None, ◌&&◌, ltb, sym, refl, ap, ◌∙◌, subst, arith}
 use Rattle.std.specs.List.{AllByRecursion, IsDistinct}
 use Rattle.std.proofs.lemmas.Bool.{cases_lt, both_ways, and_parts, and_from, eqb-true, eq-eqb, ltb-true, lt-ltb, false_from_ne_true}
 use Rattle.sched_base.specs.declared.rows.Row.{Row}
@@ -31,7 +32,8 @@ pub same_key_parts : (a b : Option ℕ) (c : ℕ) → a ≡ Some c → b ≡ Som
 same_key_parts a b c e f = subst (λ x. same_key x b ≡ true) (sym e) (subst (λ x. same_key (Some c) x ≡ true) (sym f) (eq-eqb c c refl))
 
 -- the entry of the next row, where it has one, against q's
-pub clash_one : (key : Row → Option ℕ) (n c : ℕ) (q : Row) (p : ℕ) (r : Row) (at : ℕ) (k : Option ℕ) → p < n → key q ≡ Some c → key r ≡ k → (at < n → meets key q r ≡ false) → AllByRecursion (λ f. clash n (entry_for c q p) f ≡ false) (entry_of k r at)
+pub clash_one : (key : Row → Option ℕ) (n c : ℕ) (q : Row) (p : ℕ) (r : Row) (at : ℕ) (k : Option ℕ) → p < n → key q ≡ Some c → key r ≡ k →
+    (at < n → meets key q r ≡ false) → AllByRecursion (λ f. clash n (entry_for c q p) f ≡ false) (entry_of k r at)
 clash_one key n c q p r at None h e g no_meet = tt
 clash_one key n c q p r at (Some d) h e g no_meet = (
   false_from_ne_true _ (λ t. (
@@ -53,16 +55,19 @@ pub AllByRecursion-back : {A : Type 0} (P : A → Type 0) (xs ys : List A) → A
 AllByRecursion-back P [] ys a = a
 AllByRecursion-back P (x ∷ xs) ys a = AllByRecursion-back P xs ys a.1
 
-pub clash_all : (key : Row → Option ℕ) (n c : ℕ) (q : Row) (p : ℕ) (at : ℕ) (rs : List Row) → p < n → key q ≡ Some c → Clear key n q at rs → AllByRecursion (λ f. clash n (entry_for c q p) f ≡ false) (entries_from key at rs)
+pub clash_all : (key : Row → Option ℕ) (n c : ℕ) (q : Row) (p : ℕ) (at : ℕ) (rs : List Row) → p < n → key q ≡ Some c → Clear key n q at rs →
+    AllByRecursion (λ f. clash n (entry_for c q p) f ≡ false) (entries_from key at rs)
 clash_all key n c q p at [] h e a = tt
-clash_all key n c q p at (r ∷ rs) h e a = AllByRecursion-append _ (entry_of (key r) r at) _ (clash_one key n c q p r at (key r) h e refl a.0) (clash_all key n c q p (at + 1) rs h e a.1)
+clash_all key n c q p at (r ∷ rs) h e a = AllByRecursion-append _ (entry_of (key r) r at) _ (clash_one key n c q p r at (key r) h e refl a.0)
+    (clash_all key n c q p (at + 1) rs h e a.1)
 
 pub no_clash_past : (n : ℕ) (e : Entry) (es : List Entry) → n ≤ e.place → AllByRecursion (λ f. clash n e f ≡ false) es
 no_clash_past n e [] h = tt
 no_clash_past n e (f ∷ es) h =
     (false_from_ne_true _ (λ c. (let p = clash_parts n e f c in absurd (omega (arith, p.first, h)))), no_clash_past n e es h)
 
-pub distinct_one : (key : Row → Option ℕ) (n at : ℕ) (r : Row) (rs : List Row) (k : Option ℕ) → key r ≡ k → (at < n → Clear key n r (at + 1) rs) → IsDistinct (clash n) (entries_from key (at + 1) rs) → IsDistinct (clash n) (entry_of k r at ++ entries_from key (at + 1) rs)
+pub distinct_one : (key : Row → Option ℕ) (n at : ℕ) (r : Row) (rs : List Row) (k : Option ℕ) → key r ≡ k → (at < n → Clear key n r (at + 1) rs) →
+    IsDistinct (clash n) (entries_from key (at + 1) rs) → IsDistinct (clash n) (entry_of k r at ++ entries_from key (at + 1) rs)
 unfolding IsDistinct
 distinct_one key n at r rs None e a d = d
 distinct_one key n at r rs (Some c) e a d = (
@@ -85,7 +90,8 @@ some_key None b h = absurd (both_ways _ refl h)
 some_key (Some x) None h = absurd (both_ways _ refl h)
 some_key (Some x) (Some y) h = (x, refl, ap Some (sym (eqb-true x y h)))
 
-pub clear_one : (key : Row → Option ℕ) (n c : ℕ) (q : Row) (p : ℕ) (r : Row) (at : ℕ) (k : Option ℕ) → p < n → key q ≡ Some c → key r ≡ k → AllByRecursion (λ f. clash n (entry_for c q p) f ≡ false) (entry_of k r at) → at < n → meets key q r ≡ true → ⊥
+pub clear_one : (key : Row → Option ℕ) (n c : ℕ) (q : Row) (p : ℕ) (r : Row) (at : ℕ) (k : Option ℕ) → p < n → key q ≡ Some c → key r ≡ k →
+    AllByRecursion (λ f. clash n (entry_for c q p) f ≡ false) (entry_of k r at) → at < n → meets key q r ≡ true → ⊥
 clear_one key n c q p r at None h e g all below m =
     let w = and_parts (same_key (key q) (key r)) (overlaps q r) m in
     let s = some_key (key q) (key r) w.0 in
@@ -99,7 +105,8 @@ clear_one key n c q p r at (Some d) h e g all below m =
     let y : c ≡ d = cc in
     both_ways _ all.0 (clash_from n (entry_for c q p) (entry_for d r at) h below y (ltb-true _ _ u.0) (ltb-true _ _ u.1))
 
-pub clear_all : (key : Row → Option ℕ) (n c : ℕ) (q : Row) (p : ℕ) (at : ℕ) (rs : List Row) → p < n → key q ≡ Some c → AllByRecursion (λ f. clash n (entry_for c q p) f ≡ false) (entries_from key at rs) → Clear key n q at rs
+pub clear_all : (key : Row → Option ℕ) (n c : ℕ) (q : Row) (p : ℕ) (at : ℕ) (rs : List Row) → p < n → key q ≡ Some c →
+    AllByRecursion (λ f. clash n (entry_for c q p) f ≡ false) (entries_from key at rs) → Clear key n q at rs
 clear_all key n c q p at [] h e all = tt
 clear_all key n c q p at (r ∷ rs) h e all = (
   (λ below. false_from_ne_true _ (clear_one key n c q p r at (key r) h e refl (AllByRecursion-front _ (entry_of (key r) r at) _ all) below)),
@@ -111,7 +118,9 @@ pub clear_none : (key : Row → Option ℕ) (n : ℕ) (q : Row) (at : ℕ) (rs :
 clear_none key n q at [] e = tt
 clear_none key n q at (r ∷ rs) e = ((λ below. subst (λ k. (same_key k (key r) && overlaps q r) ≡ false) (sym e) refl), clear_none key n q (at + 1) rs e)
 
-pub apart_one : (key : Row → Option ℕ) (n at : ℕ) (r : Row) (rs : List Row) (k : Option ℕ) → key r ≡ k → IsDistinct (clash n) (entry_of k r at ++ entries_from key (at + 1) rs) → (at < n → Clear key n r (at + 1) rs) × IsDistinct (clash n) (entries_from key (at + 1) rs)
+pub apart_one : (key : Row → Option ℕ) (n at : ℕ) (r : Row) (rs : List Row) (k : Option ℕ) → key r ≡ k →
+    IsDistinct (clash n) (entry_of k r at ++ entries_from key (at + 1) rs) → (at < n → Clear key n r (at + 1) rs) × IsDistinct (clash n)
+    (entries_from key (at + 1) rs)
 unfolding IsDistinct
 apart_one key n at r rs None e d = ((λ below. clear_none key n r (at + 1) rs e), d)
 apart_one key n at r rs (Some c) e d = ((λ below. clear_all key n c r at (at + 1) rs below e d.0), d.1)
@@ -122,18 +131,23 @@ apart_from_distinct key n at (r ∷ rs) d =
     let w = apart_one key n at r rs (key r) refl d in
     (w.0, apart_from_distinct key n (at + 1) rs w.1)
 
-pub entries_more : (key : Row → Option ℕ) (at : ℕ) (rs : List Row) (i : ℕ) (d : Row) → i < length rs → entries_from key at (take (i + 1) rs) ≡ entries_from key at (take i rs) ++ entry_of (key (get_or rs i d)) (get_or rs i d) (at + i)
+pub entries_more : (key : Row → Option ℕ) (at : ℕ) (rs : List Row) (i : ℕ) (d : Row) → i < length rs → entries_from key at (take (i + 1) rs) ≡ entries_from
+    key at (take i rs) ++ entry_of (key (get_or rs i d)) (get_or rs i d) (at + i)
 entries_more key at [] i d h = absurd (omega (arith, h))
-entries_more key at (r ∷ rs) zero d h = subst (λ p. entry_of (key r) r at ++ [] ≡ [] ++ entry_of (key r) r p) (sym (add-zero at)) (append-nil (entry_of (key r) r at))
+entries_more key at (r ∷ rs) zero d h = subst (λ p. entry_of (key r) r at ++ [] ≡ [] ++ entry_of (key r) r p) (sym (add-zero at))
+    (append-nil (entry_of (key r) r at))
 entries_more key at (r ∷ rs) (suc i) d h =
     let rest = entries_more key (at + 1) rs i d (omega (arith, h)) in
     let one : suc (i + 1) ≡ suc i + 1 = omega arith in
     let two : at + 1 + i ≡ at + suc i = omega arith in
-    subst (λ n. entries_from key at (take n (r ∷ rs)) ≡ entries_from key at (take (suc i) (r ∷ rs)) ++ entry_of (key (get_or rs i d)) (get_or rs i d) (at + suc i)) one
-    (ap (λ t. entry_of (key r) r at ++ t) (subst (λ p. entries_from key (at + 1) (take (i + 1) rs) ≡ entries_from key (at + 1) (take i rs) ++ entry_of (key (get_or rs i d)) (get_or rs i d) p) two rest)
+    subst (λ n. entries_from key at (take n (r ∷ rs)) ≡ entries_from key at (take (suc i) (r ∷ rs)) ++ entry_of (key (get_or rs i d)) (get_or rs i d)
+    (at + suc i)) one
+    (ap (λ t. entry_of (key r) r at ++ t) (subst (λ p. entries_from key (at + 1) (take (i + 1) rs) ≡ entries_from key (at + 1) (take i rs) ++ entry_of
+    (key (get_or rs i d)) (get_or rs i d) p) two rest)
     ∙ sym (append_assoc (entry_of (key r) r at) (entries_from key (at + 1) (take i rs)) (entry_of (key (get_or rs i d)) (get_or rs i d) (at + suc i))))
 
-pub entries_push : (key : Row → Option ℕ) (rs : List Row) (i : ℕ) (d : Row) (es new : List Entry) (k : Option ℕ) → i < length rs → es ≡ entries_from key 0 (take i rs)
+pub entries_push : (key : Row → Option ℕ) (rs : List Row) (i : ℕ) (d : Row) (es new : List Entry) (k : Option ℕ) → i < length rs → es ≡ entries_from key 0
+    (take i rs)
     → new ≡ es ++ entry_of k (get_or rs i d) i → k ≡ key (get_or rs i d) → new ≡ entries_from key 0 (take (i + 1) rs)
 entries_push key rs i d es new k h e f g =
     let more = entries_more key 0 rs i d h in

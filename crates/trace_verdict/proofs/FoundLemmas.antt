@@ -1,5 +1,6 @@
 -- What the rows of tasks tell, found by their entries where no row is at fault.
-use Rattle.std.proofs.Common.{ℕ, ◌+◌, ◌*◌, ◌^◌, ◌<◌, ◌≤◌, ◌≡◌, inl, inr, List, [], ◌∷◌, ◌++◌, take, drop, length, get_or, eqb, sym, refl, ap, ◌∙◌, subst, arith, length-append}
+use Rattle.std.proofs.Common.{ℕ, ◌+◌, ◌*◌, ◌^◌, ◌<◌, ◌≤◌, ◌≡◌, inl, inr, List, [], ◌∷◌, ◌++◌, take, drop, length, get_or, eqb, sym, refl, ap, ◌∙◌}
+use Rattle.std.proofs.Common.{subst, arith, length-append}
 use Rattle.std.specs.List.{AllByRecursion}
 use Rattle.std.proofs.lemmas.Bool.{cases_Bool, cases_lt, cond-true, cond-false, eqb-true}
 use Rattle.std.proofs.lemmas.List.{get_or_append_left}
@@ -79,11 +80,13 @@ pub found_none : (s : SetContents) (l : ℕ) (rows : List Row) (es : List Entry)
 found_none s l rows es r = record { rising = r; from = from_all es; same = λ i h. refl; count = refl; told = λ i h. absurd (omega (arith, h)) }
 
 -- what stands at the front is the part of the next task
-pub found_mine : (s : SetContents) (l : ℕ) (rows : List Row) (es : List Entry) (j n : ℕ) (rest mine : List Entry) (found : List Findings) → FoundTo s l rows es j rest found → AreFirstWithKey j rest n → mine ≡ take n rest
+pub found_mine : (s : SetContents) (l : ℕ) (rows : List Row) (es : List Entry) (j n : ℕ) (rest mine : List Entry) (found : List Findings) →
+    FoundTo s l rows es j rest found → AreFirstWithKey j rest n → mine ≡ take n rest
     → mine ≡ part j es
 found_mine s l rows es j n rest mine found r f e = e ∙ ((split_front j rest n f r.rising r.from).front ∙ r.same j (omega arith))
 
-told_next : (s : SetContents) (l : ℕ) (rows : List Row) (j : ℕ) (found : List Findings) (f : Findings) → length found ≡ j → AreTold s l rows found → IsToldOfTask s l rows j f → AreTold s l rows (found ++ f ∷ [])
+told_next : (s : SetContents) (l : ℕ) (rows : List Row) (j : ℕ) (found : List Findings) (f : Findings) → length found ≡ j → AreTold s l rows found →
+    IsToldOfTask s l rows j f → AreTold s l rows (found ++ f ∷ [])
 told_next s l rows j found f size told one = λ i h.
     let all = length-append found (f ∷ []) in
     elim (cases_lt i (length found)) [
@@ -93,7 +96,8 @@ told_next s l rows j found f size told one = λ i h.
           subst (λ k. IsToldOfTask s l rows k (found_at (found ++ f ∷ []) k)) here (subst (IsToldOfTask s l rows j) (sym (last_found found f j size)) one))
     ]
 
-pub found_next : (s : SetContents) (l : ℕ) (rows : List Row) (es : List Entry) (j n : ℕ) (rest later : List Entry) (found : List Findings) (f : Findings) → FoundTo s l rows es j rest found → AreFirstWithKey j rest n
+pub found_next : (s : SetContents) (l : ℕ) (rows : List Row) (es : List Entry) (j n : ℕ) (rest later : List Entry) (found : List Findings) (f : Findings) →
+    FoundTo s l rows es j rest found → AreFirstWithKey j rest n
     → later ≡ drop n rest → IsToldOfTask s l rows j f → FoundTo s l rows es (j + 1) later (found ++ f ∷ [])
 found_next s l rows es j n rest later found f r front back one =
     let split = split_front j rest n front r.rising r.from in

@@ -76,7 +76,8 @@ hit_of_task rows i o =
 
 -- ---- rows before their task
 
-pub early_of : (s : SetContents) (l start : ℕ) (leaf : Leaf) (j : ℕ) → is_of_task j leaf ≡ true → start < (task_at s.tasks j).offset * l → is_early_leaf s l start leaf ≡ true
+pub early_of : (s : SetContents) (l start : ℕ) (leaf : Leaf) (j : ℕ) → is_of_task j leaf ≡ true → start < (task_at s.tasks j).offset * l →
+    is_early_leaf s l start leaf ≡ true
 early_of s l start (leaves.Task id) j h u =
     let same : id.0 ≡ j = eqb-true _ _ h in
     lt-ltb _ _ (subst (λ w. start < (task_at s.tasks w).offset * l) (sym same) u)
@@ -84,7 +85,8 @@ early_of s l start (leaves.Wait id) j h u = absurd (both_ways _ refl h)
 early_of s l start (leaves.Idle i) j h u = absurd (both_ways _ refl h)
 early_of s l start leaves.Empty j h u = absurd (both_ways _ refl h)
 
-pub of_early : (s : SetContents) (l start : ℕ) (leaf : Leaf) → is_early_leaf s l start leaf ≡ true → (j : ℕ) × (is_of_task j leaf ≡ true) × (start < (task_at s.tasks j).offset * l)
+pub of_early : (s : SetContents) (l start : ℕ) (leaf : Leaf) → is_early_leaf s l start leaf ≡ true → (j : ℕ) × (is_of_task j leaf ≡ true)
+    × (start < (task_at s.tasks j).offset * l)
 of_early s l start (leaves.Task id) h = (id.0, eq-eqb _ _ refl, ltb-true _ _ h)
 of_early s l start (leaves.Wait id) h = absurd (both_ways _ refl h)
 of_early s l start (leaves.Idle i) h = absurd (both_ways _ refl h)

@@ -42,22 +42,26 @@ apart_from P (r ∷ rs) f = (
 abbrev pub NoHits : (Row → Option ℕ) → List Row → ℕ → Type 0
 NoHits key rs n = (k i : ℕ) → k < i → i < n → i < length rs → hits key rs i k ≡ false
 
-pub clear_at : (key : Row → Option ℕ) (n : ℕ) (q : Row) (at : ℕ) (rs : List Row) → Clear key n q at rs → (i : ℕ) → at + i < n → i < length rs → meets key q (row_at rs i) ≡ false
+pub clear_at : (key : Row → Option ℕ) (n : ℕ) (q : Row) (at : ℕ) (rs : List Row) → Clear key n q at rs → (i : ℕ) → at + i < n → i < length rs →
+    meets key q (row_at rs i) ≡ false
 clear_at key n q at [] c i h l = absurd (omega arith)
 clear_at key n q at (r ∷ rs) c zero h l = c.0 (omega arith)
 clear_at key n q at (r ∷ rs) c (suc i) h l = clear_at key n q (at + 1) rs c.1 i (omega arith) (omega arith)
 
-pub clear_from : (key : Row → Option ℕ) (n : ℕ) (q : Row) (at : ℕ) (rs : List Row) → ((i : ℕ) → at + i < n → i < length rs → meets key q (row_at rs i) ≡ false) → Clear key n q at rs
+pub clear_from : (key : Row → Option ℕ) (n : ℕ) (q : Row) (at : ℕ) (rs : List Row) → ((i : ℕ) → at + i < n → i < length rs →
+    meets key q (row_at rs i) ≡ false) → Clear key n q at rs
 clear_from key n q at [] f = tt
 clear_from key n q at (r ∷ rs) f = ((λ h. f 0 (omega arith) (omega arith)), clear_from key n q (at + 1) rs (λ i h l. f (suc i) (omega arith) (omega arith)))
 
-pub no_hits_at : (key : Row → Option ℕ) (n at : ℕ) (rs : List Row) → Apart key n at rs → (k i : ℕ) → k < i → at + i < n → i < length rs → hits key rs i k ≡ false
+pub no_hits_at : (key : Row → Option ℕ) (n at : ℕ) (rs : List Row) → Apart key n at rs → (k i : ℕ) → k < i → at + i < n → i < length rs →
+    hits key rs i k ≡ false
 no_hits_at key n at [] a k i h m l = absurd (omega arith)
 no_hits_at key n at (r ∷ rs) a k zero h m l = absurd (omega arith)
 no_hits_at key n at (r ∷ rs) a zero (suc i) h m l = clear_at key n r (at + 1) rs (a.0 (omega arith)) i (omega arith) (omega arith)
 no_hits_at key n at (r ∷ rs) a (suc k) (suc i) h m l = no_hits_at key n (at + 1) rs a.1 k i (omega arith) (omega arith) (omega arith)
 
-pub no_hits_from : (key : Row → Option ℕ) (n at : ℕ) (rs : List Row) → ((k i : ℕ) → k < i → at + i < n → i < length rs → hits key rs i k ≡ false) → Apart key n at rs
+pub no_hits_from : (key : Row → Option ℕ) (n at : ℕ) (rs : List Row) → ((k i : ℕ) → k < i → at + i < n → i < length rs → hits key rs i k ≡ false) →
+    Apart key n at rs
 no_hits_from key n at [] f = tt
 no_hits_from key n at (r ∷ rs) f = (
   (λ below. clear_from key n r (at + 1) rs (λ i h l. f 0 (suc i) (omega arith) (omega arith) (omega arith))),
@@ -76,12 +80,14 @@ pub clash_sym : (n : ℕ) (e f : Entry) → clash n e f ≡ clash n f e
 clash_sym n e f = same_from_both _ _ (clash_flips n e f) (clash_flips n f e)
 
 -- what a walk over sorted entries says of the rows
-pub NoHits-from_distinct : (key : Row → Option ℕ) (n : ℕ) (rs : List Row) (es : List Entry) → IsPermutation (entries_from key 0 rs) es → IsDistinct (clash n) es → NoHits key rs n
+pub NoHits-from_distinct : (key : Row → Option ℕ) (n : ℕ) (rs : List Row) (es : List Entry) → IsPermutation (entries_from key 0 rs) es →
+    IsDistinct (clash n) es → NoHits key rs n
 NoHits-from_distinct key n rs es p d =
     let back = IsDistinct-IsPermutation (clash n) (clash_sym n) es (entries_from key 0 rs) (IsPermutation-sym _ _ p) d in
     λ k i h m l. no_hits_at key n 0 rs (apart_from_distinct key n 0 rs back) k i h (omega arith) l
 
-pub distinct-from_NoHits : (key : Row → Option ℕ) (n : ℕ) (rs : List Row) (es : List Entry) → IsPermutation (entries_from key 0 rs) es → NoHits key rs n → IsDistinct (clash n) es
+pub distinct-from_NoHits : (key : Row → Option ℕ) (n : ℕ) (rs : List Row) (es : List Entry) → IsPermutation (entries_from key 0 rs) es → NoHits key rs n →
+    IsDistinct (clash n) es
 distinct-from_NoHits key n rs es p f =
     IsDistinct-IsPermutation (clash n) (clash_sym n) _ es p (distinct_from_apart key n 0 rs (no_hits_from key n 0 rs (λ k i h m l. f k i h (omega arith) l)))
 

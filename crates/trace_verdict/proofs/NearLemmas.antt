@@ -1,6 +1,8 @@
 -- A row near the last one of its task: in the same period, or in the next one.
-use Rattle.std.proofs.Common.{ℕ, ◌+◌, ◌-◌, ◌*◌, ◌^◌, ◌<◌, ◌≤◌, ◌≡◌, ◌≢◌, inl, inr, true, false, Bool, List, [], ◌∷◌, max, cond, eqb, leb, ltb, ◌&&◌, refl, sym, ap, ◌∙◌, subst, arith}
-use Rattle.std.proofs.lemmas.Bool.{cases_lt, and_from, or_left, or_right, eq-eqb, ne_eqb, lt-ltb, le-ltb, le-leb, cond-true, cond-false, false_from_ne_true, leb-true}
+use Rattle.std.proofs.Common.{ℕ, ◌+◌, ◌-◌, ◌*◌, ◌^◌, ◌<◌, ◌≤◌, ◌≡◌, ◌≢◌, inl, inr, true, false, Bool, List, [], ◌∷◌, max, cond, eqb, leb, ltb, ◌&&◌}
+use Rattle.std.proofs.Common.{refl, sym, ap, ◌∙◌, subst, arith}
+use Rattle.std.proofs.lemmas.Bool.{cases_lt, and_from, or_left, or_right, eq-eqb, ne_eqb, lt-ltb, le-ltb, le-leb, cond-true, cond-false}
+use Rattle.std.proofs.lemmas.Bool.{false_from_ne_true, leb-true}
 use Rattle.std.proofs.lemmas.List.{length-map}
 use Rattle.sched_base.specs.Counting.{bit}
 use Rattle.sched_base.specs.declared.rows.Row.{Row}
@@ -64,7 +66,8 @@ last_of t l s c =
     let here : k < t.before.end = subst (λ w. w < t.before.end) c.begin (subst (λ w. t.begin < w) c.tick c.begun) in
     let there : t.before.end ≤ k + p.period = subst (λ w. t.before.end ≤ w) (c.next ∙ ap (λ w. w + p.period) c.begin) (subst (λ w. w ≤ t.next) c.tick c.ends) in
     let base : p.base ≤ k = low p.base (c.number * p.period) in
-    between p (t.before.end - 1) c.number l.some_period (down p.base k t.before.end base here) (down k k t.before.end (omega arith) here) (under k p.period t.before.end here there)
+    between p (t.before.end - 1) c.number l.some_period (down p.base k t.before.end base here) (down k k t.before.end (omega arith) here)
+    (under k p.period t.before.end here there)
   where
     low : (a b : ℕ) → a ≤ a + b
     low a b = omega arith
@@ -88,7 +91,8 @@ begins_same t x l s c low high =
     let there : x < bound_at p c.number + p.period = subst (λ w. x < w) room high in
     let k : ℕ = bound_at p c.number in
     let first : ended_by p t.tick ≡ c.number = between p t.tick c.number l.some_period base (le_of k t.tick here) (lt_of t.tick x (k + p.period) low there) in
-    let mine : ended_by p x ≡ c.number = between p x c.number l.some_period (le_trans p.base t.tick x base low) (le_trans k t.tick x (le_of k t.tick here) low) there in
+    let mine : ended_by p x ≡ c.number = between p x c.number l.some_period (le_trans p.base t.tick x base low) (le_trans k t.tick x (le_of k t.tick here)
+    low) there in
     record {
       number = c.number;
       begin = begin;
@@ -109,7 +113,8 @@ begins_same t x l s c low high =
     lt_of : (a b d : ℕ) → a ≤ b → b < d → a < d
     lt_of a b d h i = omega (arith, h, i)
 
-pub begins_next : (t : TaskWalk) (x : ℕ) → AreLawful t.periods → StandsAt t.periods (walk_of t) → IsPaced t → t.tick ≤ x → t.next ≤ x → x - t.next < t.periods.period → t.done ≡ t.owed
+pub begins_next : (t : TaskWalk) (x : ℕ) → AreLawful t.periods → StandsAt t.periods (walk_of t) → IsPaced t → t.tick ≤ x → t.next ≤ x →
+    x - t.next < t.periods.period → t.done ≡ t.owed
     → BeginsIn t x (record { begin = t.next; next = t.next + t.periods.period; owed = t.owed + t.periods.due; same = false })
 begins_next t x l s c low past near done =
     let p : Periods = t.periods in
@@ -117,7 +122,8 @@ begins_next t x l s c low past near done =
     let base : p.base ≤ t.tick = s.begun in
     let begin : t.next ≡ bound_at p (n + 1) = c.next ∙ (ap (λ w. w + p.period) c.begin ∙ sym (bounds_rise p n)) in
     let high : x < t.next + p.period = up x t.next p.period past near in
-    let mine : ended_by p x ≡ n + 1 = between p x (n + 1) l.some_period (le_trans p.base t.tick x base low) (subst (λ w. w ≤ x) begin past) (subst (λ w. x < w + p.period) begin high) in
+    let mine : ended_by p x ≡ n + 1 = between p x (n + 1) l.some_period (le_trans p.base t.tick x base low) (subst (λ w. w ≤ x) begin past)
+    (subst (λ w. x < w + p.period) begin high) in
     let owed : t.done ≡ (n + 1) * p.due = done ∙ c.owed in
     record {
       number = n + 1;
@@ -157,19 +163,22 @@ begins_next t x l s c low past near done =
 
 -- ---- a row in a period
 
-pub near_within : (t : TaskWalk) (r : Row) (n : Near) → AreLawful t.periods → t.periods.base ≤ r.start → BeginsIn t r.start n → r.start < r.end → r.end < n.next → IsNear t r n
+pub near_within : (t : TaskWalk) (r : Row) (n : Near) → AreLawful t.periods → t.periods.base ≤ r.start → BeginsIn t r.start n → r.start < r.end →
+    r.end < n.next → IsNear t r n
 near_within t r n l base b long less =
     let p : Periods = t.periods in
     let room : n.next ≡ bound_at p b.number + p.period = b.next ∙ ap (λ w. w + p.period) b.begin in
     let low : bound_at p b.number ≤ r.start = subst (λ w. w ≤ r.start) b.begin b.begun in
     let first = between p r.start b.number l.some_period base low (subst (λ w. r.start < w) room b.ends) in
-    let last = between p r.end b.number l.some_period (step p.base r.start r.end base long) (step (bound_at p b.number) r.start r.end low long) (subst (λ w. r.end < w) room less) in
+    let last = between p r.end b.number l.some_period (step p.base r.start r.end base long) (step (bound_at p b.number) r.start r.end low long)
+    (subst (λ w. r.end < w) room less) in
     record { period = b; ends = omega (arith, less); row = or_left _ _ (eq-eqb _ _ (first ∙ sym last)) }
   where
     step : (a x y : ℕ) → a ≤ x → x < y → a ≤ y
     step a x y h i = omega (arith, h, i)
 
-pub near_up_to : (t : TaskWalk) (r : Row) (n : Near) → AreLawful t.periods → t.periods.base ≤ r.start → BeginsIn t r.start n → r.start < r.end → r.end ≡ n.next → t.done + (r.end - r.start) ≡ n.owed → IsNear t r n
+pub near_up_to : (t : TaskWalk) (r : Row) (n : Near) → AreLawful t.periods → t.periods.base ≤ r.start → BeginsIn t r.start n → r.start < r.end →
+    r.end ≡ n.next → t.done + (r.end - r.start) ≡ n.owed → IsNear t r n
 near_up_to t r n l base b long same due =
     let p : Periods = t.periods in
     let k : ℕ = b.number in
@@ -177,11 +186,13 @@ near_up_to t r n l base b long same due =
     let end : r.end ≡ bound_at p (k + 1) = same ∙ (room ∙ sym (bounds_rise p k)) in
     let low : bound_at p k ≤ r.start = subst (λ w. w ≤ r.start) b.begin b.begun in
     let first : ended_by p r.start ≡ k = between p r.start k l.some_period base low (subst (λ w. r.start < w) room b.ends) in
-    let last : ended_by p r.end ≡ k + 1 = between p r.end (k + 1) l.some_period (step p.base r.start r.end base long) (level (bound_at p (k + 1)) r.end end) (here r.end (bound_at p (k + 1)) p.period end l.some_period) in
+    let last : ended_by p r.end ≡ k + 1 = between p r.end (k + 1) l.some_period (step p.base r.start r.end base long) (level (bound_at p (k + 1)) r.end end)
+    (here r.end (bound_at p (k + 1)) p.period end l.some_period) in
     let owed : t.done + (bound_at p (k + 1) - r.start) ≡ (k + 1) * p.due = subst (λ w. t.done + (w - r.start) ≡ (k + 1) * p.due) end (due ∙ b.owed) in
     let one : t.done + (bound_at p (ended_by p r.start + 1) - r.start) ≡ (ended_by p r.start + 1) * p.due
     = subst (λ w. t.done + (bound_at p (w + 1) - r.start) ≡ (w + 1) * p.due) (sym first) owed in
-    let two : t.done + (bound_at p (ended_by p r.end) - r.start) ≡ ended_by p r.end * p.due = subst (λ w. t.done + (bound_at p w - r.start) ≡ w * p.due) (sym last) owed in
+    let two : t.done + (bound_at p (ended_by p r.end) - r.start) ≡ ended_by p r.end * p.due = subst (λ w. t.done + (bound_at p w - r.start) ≡ w * p.due)
+    (sym last) owed in
     record { period = b; ends = level_up r.end n.next same; row = or_right _ _ (and_from _ _ (eq-eqb _ _ one) (eq-eqb _ _ two)) }
   where
     step : (a x y : ℕ) → a ≤ x → x < y → a ≤ y
@@ -212,7 +223,8 @@ row_period t r n l base long i =
     let low : k ≤ r.start = subst (λ w. w ≤ r.start) b.begin b.begun in
     let high : r.end ≤ k + p.period = subst (λ w. r.end ≤ w) room i.ends in (
       between p r.start b.number l.some_period base low (subst (λ w. r.start < w) room b.ends),
-      between p (r.end - 1) b.number l.some_period (down p.base r.start r.end base long) (down k r.start r.end low long) (under k p.period r.start r.end long high),
+      between p (r.end - 1) b.number l.some_period (down p.base r.start r.end base long) (down k r.start r.end low long) (under k p.period r.start r.end
+          long high),
     )
   where
     down : (a x y : ℕ) → a ≤ x → x < y → a ≤ y - 1
@@ -221,7 +233,8 @@ row_period t r n l base long i =
     under : (k d x y : ℕ) → x < y → y ≤ k + d → y - 1 < k + d
     under k d x y h i = omega (arith, h, i)
 
-response_is : (t : TaskWalk) (r : Row) (n : Near) → AreLawful t.periods → t.periods.base ≤ t.periods.stop → t.periods.base ≤ r.start → r.start < r.end → IsNear t r n
+response_is : (t : TaskWalk) (r : Row) (n : Near) → AreLawful t.periods → t.periods.base ≤ t.periods.stop → t.periods.base ≤ r.start → r.start < r.end →
+    IsNear t r n
     → finished n t.periods.stop r.end ≡ row_response t.periods r
 response_is t r n l begun base long i =
     let p : Periods = t.periods in
@@ -234,7 +247,8 @@ response_is t r n l begun base long i =
     let last : finished n p.stop r.end ≡ cond (ltb k (ended_by p p.stop)) (r.end - bound_at p k) 0 = (elim (cases_lt p.stop n.next) [
       | inl early ↦ (
           let few = counted_past p p.stop (k + 1) l.some_period begun (subst (λ w. p.stop < w) room early) in
-          cond-false _ _ _ (false_from_ne_true (leb n.next p.stop) (λ h. (let le : n.next ≤ p.stop = leb-true n.next p.stop h in omega (arith, le, early)))) ∙ sym (cond-false _ _ _ (le-ltb k (ended_by p p.stop) (omega (arith, few)))))
+          cond-false _ _ _ (false_from_ne_true (leb n.next p.stop) (λ h. (let le : n.next ≤ p.stop = leb-true n.next p.stop h in omega (arith, le, early))))
+          ∙ sym (cond-false _ _ _ (le-ltb k (ended_by p p.stop) (omega (arith, few)))))
       | inr full ↦ (
           let some = counted_to p p.stop (k + 1) l.some_period begun (subst (λ w. w ≤ p.stop) room full) in
           cond-true _ _ _ (le-leb _ _ full) ∙ (ap (λ w. r.end - w) i.period.begin ∙ sym (cond-true _ _ _ (lt-ltb k (ended_by p p.stop) (omega (arith, some))))))
@@ -245,9 +259,11 @@ response_is t r n l begun base long i =
     top a b e = omega (arith, e)
 
 -- a row is gone through that begins in this period, with this response
-pub row_goes : (t : TaskWalk) (r : Row) (n : Near) (u : Tally) (x : ℕ) {k : ℕ} → ended_by t.periods r.start ≡ k → n.same ≡ eqb (ended_by t.periods (t.before.end - 1)) k → x ≡ row_response t.periods r
+pub row_goes : (t : TaskWalk) (r : Row) (n : Near) (u : Tally) (x : ℕ) {k : ℕ} → ended_by t.periods r.start ≡ k →
+    n.same ≡ eqb (ended_by t.periods (t.before.end - 1)) k → x ≡ row_response t.periods r
     → KeepsPace t.periods u → u.before ≡ r
-    → u.found.preemptions ≡ t.found.preemptions + bit (n.same && is_preemption t.before r) → u.found.migrations ≡ t.found.migrations + bit (n.same && is_migration t.before r)
+    → u.found.preemptions ≡ t.found.preemptions + bit (n.same && is_preemption t.before r) → u.found.migrations ≡ t.found.migrations + bit
+    (n.same && is_migration t.before r)
     → u.found.response ≡ max t.found.response x → Goes t.periods (r ∷ []) (tally_of t) u
 row_goes t r n u x first same d pace before pre mig resp =
     let p : Periods = t.periods in
@@ -272,11 +288,24 @@ row_goes t r n u x first same d pace before pre mig resp =
     tops new old x y z e f = omega (arith, e, f)
 
 -- the row goes by
-pub near_gone : (rows : List Row) (j place : ℕ) (t : TaskWalk) (r : Row) (n : Near) (f : Findings) → HasGone rows j t → 0 < t.count → t.count < t.limit → IsPlaceOf rows j place → r ≡ row_at rows place
+pub near_gone : (rows : List Row) (j place : ℕ) (t : TaskWalk) (r : Row) (n : Near) (f : Findings) → HasGone rows j t → 0 < t.count → t.count < t.limit →
+    IsPlaceOf rows j place → r ≡ row_at rows place
     → t.tick ≤ r.start → r.start < r.end → r.end ≤ t.periods.stop → IsNear t r n
-    → f.preemptions ≡ t.found.preemptions + bit (n.same && is_preemption t.before r) → f.migrations ≡ t.found.migrations + bit (n.same && is_migration t.before r)
+    → f.preemptions ≡ t.found.preemptions + bit (n.same && is_preemption t.before r) → f.migrations ≡ t.found.migrations + bit (n.same && is_migration
+    t.before r)
     → f.response ≡ max t.found.response (finished n t.periods.stop r.end)
-    → HasGone rows j (record { periods = t.periods; tick = r.end; done = t.done + (r.end - r.start); begin = n.begin; next = n.next; owed = n.owed; before = r; found = f; count = t.count + 1; limit = t.limit })
+    → HasGone rows j (record {
+      periods = t.periods;
+      tick = r.end;
+      done = t.done + (r.end - r.start);
+      begin = n.begin;
+      next = n.next;
+      owed = n.owed;
+      before = r;
+      found = f;
+      count = t.count + 1;
+      limit = t.limit;
+    })
 near_gone rows j place t r n f g some room own is apart long ends i pre mig resp =
     let p : Periods = t.periods in
     let l : AreLawful p = g.ready.lawful in
@@ -291,8 +320,18 @@ near_gone rows j place t r n f g some room own is apart long ends i pre mig resp
       ended = ended_by p p.stop;
       found = f;
     } in
-    let stands : StandsAt p w = record { base = refl; span = refl; number = refl; begun = omega (arith, base, long); ends = ends; small = (let m = s.small in omega (arith, m, apart, long)) } in
-    let past : GoesPast p (entry_for j r place ∷ []) (walk_of t) w = past_one p (entry_for j r place) (walk_of t) w stands refl refl apart long i.period.gap i.row in
+    let stands : StandsAt p w =
+    record {
+      base = refl;
+      span = refl;
+      number = refl;
+      begun = omega (arith, base, long);
+      ends = ends;
+      small = (let m = s.small in
+          omega (arith, m, apart, long));
+    } in
+    let past : GoesPast p (entry_for j r place ∷ []) (walk_of t) w = past_one p (entry_for j r place) (walk_of t) w stands refl refl apart long i.period.gap
+    i.row in
     let both = row_period t r n l base long i in
     let goes = row_goes t r n u (finished n p.stop r.end) both.0 i.period.same (response_is t r n l begun base long i)
     (record { some = l.some_period; base = refl; span = refl; last = refl; ended = refl }) refl pre mig resp in
@@ -309,12 +348,16 @@ near_gone rows j place t r n f g some room own is apart long ends i pre mig resp
     })
 
 -- the period of a row's last tick
-pub far_paced : (a : TaskWalk) (w : Walk) (u : Tally) (n : Near) (e : ℕ) → AreLawful a.periods → a.periods.base < e → w.tick ≡ e → u.before.end ≡ e → u.last ≡ ended_by a.periods (e - 1)
-    → n.begin ≡ bound_at a.periods u.last → n.next ≡ n.begin + a.periods.period → n.owed ≡ (u.last + 1) * a.periods.due → IsPaced (walk_after a w u n.begin n.next n.owed)
+pub far_paced : (a : TaskWalk) (w : Walk) (u : Tally) (n : Near) (e : ℕ) → AreLawful a.periods → a.periods.base < e → w.tick ≡ e → u.before.end ≡ e →
+    u.last ≡ ended_by a.periods (e - 1)
+    → n.begin ≡ bound_at a.periods u.last → n.next ≡ n.begin + a.periods.period → n.owed ≡ (u.last + 1) * a.periods.due →
+    IsPaced (walk_after a w u n.begin n.next n.owed)
 far_paced a w u n e l base tick before last begin next owed =
     let p : Periods = a.periods in
-    let low : bound_at p u.last ≤ e - 1 = subst (λ k. bound_at p k ≤ e - 1) (sym last) (counted_from p (e - 1) (ended_by p (e - 1)) l.some_period (omega (arith, base)) (omega arith)) in
-    let high : e - 1 < bound_at p u.last + p.period = subst (λ k. e - 1 < k) (bounds_rise p u.last) (subst (λ k. e - 1 < bound_at p (k + 1)) (sym last) (past_counted p (e - 1) (ended_by p (e - 1) + 1) l.some_period (omega (arith, base)) (omega arith))) in
+    let low : bound_at p u.last ≤ e - 1 = subst (λ k. bound_at p k ≤ e - 1) (sym last) (counted_from p (e - 1) (ended_by p (e - 1)) l.some_period
+    (omega (arith, base)) (omega arith)) in
+    let high : e - 1 < bound_at p u.last + p.period = subst (λ k. e - 1 < k) (bounds_rise p u.last) (subst (λ k. e - 1 < bound_at p (k + 1)) (sym last)
+    (past_counted p (e - 1) (ended_by p (e - 1) + 1) l.some_period (omega (arith, base)) (omega arith))) in
     record {
       number = u.last;
       begin = begin;
@@ -334,7 +377,8 @@ far_paced a w u n e l base tick before last begin next owed =
 -- the period of a row's last tick begins before it
 pub far_fits : (p : Periods) (last tick e : ℕ) → AreLawful p → p.base < e → last ≡ ended_by p (e - 1) → tick ≡ e → tick ≤ p.stop → bound_at p last < 2 ^ 127
 far_fits p last tick e l base is same ends =
-    let low : bound_at p last ≤ e - 1 = subst (λ k. bound_at p k ≤ e - 1) (sym is) (counted_from p (e - 1) (ended_by p (e - 1)) l.some_period (omega (arith, base)) (omega arith)) in
+    let low : bound_at p last ≤ e - 1 = subst (λ k. bound_at p k ≤ e - 1) (sym is) (counted_from p (e - 1) (ended_by p (e - 1)) l.some_period
+    (omega (arith, base)) (omega arith)) in
     below (bound_at p last) e tick p.stop low same ends l.fits
   where
     below : (b e t s : ℕ) → b ≤ e - 1 → t ≡ e → t ≤ s → s < 2 ^ 127 → b < 2 ^ 127

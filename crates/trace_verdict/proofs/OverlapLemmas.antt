@@ -1,11 +1,14 @@
 -- A walk through rows in the order of key and start tells whether two of one key overlap.
-use Rattle.std.proofs.Common.{suc, add-one, ℕ, ◌+◌, ◌<◌, ◌≤◌, ◌≡◌, ◌⊎◌, inl, inr, true, false, List, [], ◌∷◌, get_or, Some, None, ◌&&◌, not, eqb, ltb, leb, sym, refl, ◌∙◌, subst, arith}
+use Rattle.std.proofs.Common.{suc, add-one, ℕ, ◌+◌, ◌<◌, ◌≤◌, ◌≡◌, ◌⊎◌, inl, inr, true, false, List, [], ◌∷◌, get_or, Some, None, ◌&&◌, not, eqb, ltb}
+use Rattle.std.proofs.Common.{leb, sym, refl, ◌∙◌, subst, arith}
 use Rattle.std.specs.List.{AllByRecursion, IsDistinct}
 use Rattle.std.specs.List.Sorted.{IsSorted}
 use Rattle.std.specs.declared.cmp.Ordering.{Ordering}
 use Rattle.std.specs.declared.cmp.Ordering.TheVariants.{Less, Equal}
 use Rattle.std.specs.Ordering.{nat_cmp, ordering_then, is_lt}
-use Rattle.std.proofs.lemmas.Bool.{cases_lt, cases_eq, both_ways, and_parts, and_from, or_cases, or_left, or_right, eqb-true, eq-eqb, eqb-false, ne_eqb, leb-true, le-leb, ltb-true, lt-ltb, le-ltb, not-true, not_from_false, false_from_ne_true, cond-true, cond-false}
+use Rattle.std.proofs.lemmas.Bool.{cases_lt, cases_eq, both_ways, and_parts, and_from, or_cases, or_left, or_right, eqb-true, eq-eqb, eqb-false}
+use Rattle.std.proofs.lemmas.Bool.{ne_eqb, leb-true, le-leb, ltb-true, lt-ltb, le-ltb, not-true, not_from_false, false_from_ne_true, cond-true}
+use Rattle.std.proofs.lemmas.Bool.{cond-false}
 use Rattle.trace_verdict.specs.declared.entries.Entry.{Entry}
 use Rattle.trace_verdict.specs.Orders.{entry_cmp}
 use Rattle.trace_verdict.specs.Overlaps.{IsLong, clash, is_apart_from, walk}
@@ -19,7 +22,8 @@ Rising [] = Unit {0}
 Rising (e ∷ es) = AllByRecursion (Before e) es × Rising es
 
 pub clash_from : (limit : ℕ) (e f : Entry) → e.place < limit → f.place < limit → e.key ≡ f.key → e.start < f.end → f.start < e.end → clash limit e f ≡ true
-clash_from limit e f a b c d g = and_from _ _ (and_from _ _ (lt-ltb _ _ a) (lt-ltb _ _ b)) (and_from _ _ (eq-eqb _ _ c) (and_from _ _ (lt-ltb _ _ d) (lt-ltb _ _ g)))
+clash_from limit e f a b c d g = and_from _ _ (and_from _ _ (lt-ltb _ _ a) (lt-ltb _ _ b)) (and_from _ _ (eq-eqb _ _ c) (and_from _ _ (lt-ltb _ _ d)
+    (lt-ltb _ _ g)))
 
 pub record Clashing (limit : ℕ) (e f : Entry) : Type 0 where
   pub first : e.place < limit
@@ -43,7 +47,8 @@ no_clash_past limit e (f ∷ es) h =
     (false_from_ne_true _ (λ c. (let p = clash_parts limit e f c in absurd (omega (arith, p.first, h)))), no_clash_past limit e es h)
 
 -- the last entry ends before each later one of its key begins
-pub clear_of_all : (limit : ℕ) (l e : Entry) (es : List Entry) → l.place < limit → e.place < limit → Before l e → is_apart_from (Some l) e ≡ true → AllByRecursion (Before e) es → AllByRecursion (λ f. clash limit l f ≡ false) es
+pub clear_of_all : (limit : ℕ) (l e : Entry) (es : List Entry) → l.place < limit → e.place < limit → Before l e → is_apart_from (Some l) e ≡ true →
+    AllByRecursion (Before e) es → AllByRecursion (λ f. clash limit l f ≡ false) es
 clear_of_all limit l e [] a b c h up = tt
 clear_of_all limit l e (f ∷ es) a b c h up = (
   false_from_ne_true _ (λ d. (
@@ -87,8 +92,10 @@ walk_after limit l (e ∷ es) a up rise h =
           ((clear_of_one limit l e p.0, clear_of_all limit l e es a below up.0 p.0 rise.0), rest))
       | inr past ↦ (
           let w : walk limit (Some l) es ≡ true = sym (cond-false _ _ _ (le-ltb _ _ past)) ∙ h in
-          let rest = walk_after limit l es a up.1 rise.1 w in
-          ((false_from_ne_true _ (λ c. (let p = clash_parts limit l e c in absurd (omega (arith, p.second, past)))), rest.0), (no_clash_past limit e es past, rest.1)))
+          let rest = walk_after limit l es a up.1 rise.1 w in (
+            (false_from_ne_true _ (λ c. (let p = clash_parts limit l e c in absurd (omega (arith, p.second, past)))), rest.0),
+            (no_clash_past limit e es past, rest.1),
+          ))
     ]
 
 pub walk_to : (limit : ℕ) (es : List Entry) → Rising es → walk limit None es ≡ true → IsDistinct (clash limit) es
@@ -105,7 +112,8 @@ walk_to limit (e ∷ es) rise h =
           (no_clash_past limit e es past, walk_to limit es rise.1 w))
     ]
 
-pub apart_if_clear : (limit : ℕ) (l e : Entry) → l.place < limit → e.place < limit → IsLong e → Before l e → clash limit l e ≡ false → is_apart_from (Some l) e ≡ true
+pub apart_if_clear : (limit : ℕ) (l e : Entry) → l.place < limit → e.place < limit → IsLong e → Before l e → clash limit l e ≡ false →
+    is_apart_from (Some l) e ≡ true
 apart_if_clear limit l e a b long up c =
     elim (cases_eq l.key e.key) [
       | inr ne ↦ or_left _ _ (not_from_false _ (ne_eqb _ _ ne))
@@ -212,7 +220,8 @@ pub walk_none : (es : List Entry) → walk 0 None es ≡ true
 walk_none [] = refl
 walk_none (e ∷ es) = cond-false _ _ _ (le-ltb e.place 0 (omega arith)) ∙ walk_none es
 
-pub first_found : (es : List Entry) (low high : ℕ) → IsSorted entry_cmp es → AllByRecursion IsLong es → low + 1 ≡ high → walk high None es ≡ false → IsDistinct (clash (low + 1)) es → ⊥
+pub first_found : (es : List Entry) (low high : ℕ) → IsSorted entry_cmp es → AllByRecursion IsLong es → low + 1 ≡ high → walk high None es ≡ false →
+    IsDistinct (clash (low + 1)) es → ⊥
 first_found es low high s long e f d =
     let t = walk_back (low + 1) es (Rising-from_sorted es s) long d in
     both_ways _ f (subst (λ w. walk w None es ≡ true) e t)

@@ -1,5 +1,6 @@
 -- What is known of the entries of rows, and of a task's part of them.
-use Rattle.std.proofs.Common.{length-append, zero, suc, ℕ, ◌+◌, ◌<◌, ◌≤◌, ◌≡◌, ◌≢◌, inl, inr, List, [], ◌∷◌, length, take, drop, get_or, Option, Some, None, unwrap_or, MatchOption, sym, refl, ap, ◌∙◌, subst, arith}
+use Rattle.std.proofs.Common.{length-append, zero, suc, ℕ, ◌+◌, ◌<◌, ◌≤◌, ◌≡◌, ◌≢◌, inl, inr, List, [], ◌∷◌, length, take, drop, get_or, Option, Some}
+use Rattle.std.proofs.Common.{None, unwrap_or, MatchOption, sym, refl, ap, ◌∙◌, subst, arith}
 use Rattle.std.specs.List.{AllByRecursion, IsDistinct}
 use Rattle.std.proofs.lemmas.Bool.{eq-eqb, ne_eqb, cond-true, cond-false}
 use Rattle.std.proofs.lemmas.List.{get_or_default}
@@ -31,7 +32,8 @@ task_is s tasks j t value known is = is ∙ (ap (λ ts. get_or ts j t) value ∙
 
 -- ---- what holds of each entry
 
-pub entry_has : (key : Row → Option ℕ) (Q : Entry → Type 0) (r : Row) (at : ℕ) (k : Option ℕ) → ((c : ℕ) → k ≡ Some c → Q (record { key = c; start = r.start; place = at; end = r.end })) → AllByRecursion Q (entry_of k r at)
+pub entry_has : (key : Row → Option ℕ) (Q : Entry → Type 0) (r : Row) (at : ℕ) (k : Option ℕ) → ((c : ℕ) → k ≡ Some c →
+    Q (record { key = c; start = r.start; place = at; end = r.end })) → AllByRecursion Q (entry_of k r at)
 entry_has key Q r at None f = tt
 entry_has key Q r at (Some c) f = (f c refl, tt)
 
@@ -54,7 +56,8 @@ pub order_has : (key : Row → Option ℕ) (Q : Entry → Type 0) (rs : List Row
 order_has key Q rs es o f =
     recursion_from_All Q es (All-permutation Q _ es o.same (All-from_recursion Q _ (entries_have key Q 0 rs f)))
 
-pub order_long : (s : SetContents) (key : Row → Option ℕ) (rs : List Row) (es : List Entry) → IsOrder key rs es → AllByRecursion (IsTraceRow s) rs → AllByRecursion IsLong es
+pub order_long : (s : SetContents) (key : Row → Option ℕ) (rs : List Row) (es : List Entry) → IsOrder key rs es → AllByRecursion (IsTraceRow s) rs →
+    AllByRecursion IsLong es
 order_long s key rs es o t = order_has key IsLong rs es o (λ i c h e. (all_get (IsTraceRow s) rs i _ t h).long)
 
 -- ---- the first hit
@@ -106,7 +109,8 @@ split_front j (e ∷ es) zero f r from =
     }
 split_front j (e ∷ es) (suc n) f r from =
     let same : e.key ≡ j = f.has 0 (omega arith) in
-    let s = split_front j es n (record { within = omega (arith, f.within); has = λ k h. f.has (suc k) (omega (arith, h)); ends = λ h. f.ends (omega (arith, h)) }) r.1 from.1 in
+    let s = split_front j es n
+    (record { within = omega (arith, f.within); has = λ k h. f.has (suc k) (omega (arith, h)); ends = λ h. f.ends (omega (arith, h)) }) r.1 from.1 in
     record {
       front = ap (λ t. e ∷ t) s.front ∙ sym (cond-true _ _ _ (eq-eqb _ _ same));
       rest = s.rest;

@@ -1,5 +1,6 @@
 -- Rows in few bytes, one after the other.
-use Rattle.std.proofs.Common.{suc, add-one, ℕ, ◌+◌, ◌<◌, ◌≤◌, ◌≡◌, ◌&&◌, inl, inr, Bool, true, false, List, [], ◌∷◌, length, length-append, map, drop, get_or, Option, Some, None, sym, refl, ap, ◌∙◌, arith}
+use Rattle.std.proofs.Common.{suc, add-one, ℕ, ◌+◌, ◌<◌, ◌≤◌, ◌≡◌, ◌&&◌, inl, inr, Bool, true, false, List, [], ◌∷◌, length, length-append, map, drop}
+use Rattle.std.proofs.Common.{get_or, Option, Some, None, sym, refl, ap, ◌∙◌, arith}
 use Rattle.std.specs.Prelude.{is_some}
 use Rattle.std.proofs.Math.Seq.{drop-cons}
 use Rattle.std.proofs.lemmas.Bool.{cases_lt, or_left, or_right, and_from, eq-eqb, le-leb, lt-ltb}
@@ -34,7 +35,8 @@ pub record StandsSoFar (s : SetContents) (scale : ℕ) (rows : List Row) (i tota
   pub few : total ≤ i
 
 pub stands_none : (s : SetContents) (scale : ℕ) (rows : List Row) (z : Row) → z.processor ≡ 0 → z.end ≡ 0 → StandsSoFar s scale rows 0 0 z
-stands_none s scale rows z p e = record { stands = stand_zero z rows p e; fit = λ j l. absurd (omega (arith, l)); count = alone (length (entries_from task_key 0 rows)); few = omega arith }
+stands_none s scale rows z p e =
+    record { stands = stand_zero z rows p e; fit = λ j l. absurd (omega (arith, l)); count = alone (length (entries_from task_key 0 rows)); few = omega arith }
   where
     alone : (n : ℕ) → 0 + n ≡ n
     alone n = omega arith
@@ -47,7 +49,8 @@ entry_count r at = go (task_key r)
     go None = refl
     go (Some k) = refl
 
-pub stands_more : (s : SetContents) (scale : ℕ) (rows : List Row) (i total new : ℕ) (last r d : Row) → StandsSoFar s scale rows i total last → i < length rows → r ≡ get_or rows i d
+pub stands_more : (s : SetContents) (scale : ℕ) (rows : List Row) (i total new : ℕ) (last r d : Row) → StandsSoFar s scale rows i total last →
+    i < length rows → r ≡ get_or rows i d
     → comes_after (Some last) r ≡ true → is_fit s scale r ≡ true → new ≡ total + bit (is_some (task_key r)) → StandsSoFar s scale rows (i + 1) new r
 stands_more s scale rows i total new last r d so within is after fits sum =
     let next : drop i rows ≡ r ∷ drop (i + 1) rows
@@ -60,7 +63,8 @@ stands_more s scale rows i total new last r d so within is after fits sum =
       stands = so.stands ∙ ap (stand (Some last)) next ∙ ap (λ b. b && stand (Some r) (drop (i + 1) rows)) after;
       fit = λ j l. elim (cases_lt j i) [
         | inl less ↦ so.fit j less
-        | inr ge ↦ ap (λ k. is_fit s scale (row_at rows k)) (let same : j ≡ i = omega (arith, l, ge) in same) ∙ ap (is_fit s scale) (sym (is ∙ get_or_default rows i d _ within)) ∙ fits
+        | inr ge ↦ ap (λ k. is_fit s scale (row_at rows k)) (let same : j ≡ i = omega (arith, l, ge) in same) ∙ ap (is_fit s scale)
+            (sym (is ∙ get_or_default rows i d _ within)) ∙ fits
       ];
       count = omega (arith, sum, count, split, one);
       few = (let small = bit_small (is_some (task_key r)) in omega (arith, few, sum, small));

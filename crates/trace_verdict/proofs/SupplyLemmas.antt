@@ -1,5 +1,6 @@
 -- A walk through the rows tells whether each period has its due.
-use Rattle.std.proofs.Common.{ℕ, ◌+◌, ◌-◌, ◌*◌, ◌<◌, ◌≤◌, ◌≡◌, ◌≢◌, inl, inr, Bool, true, false, ◌&&◌, ◌||◌, List, [], ◌∷◌, eqb, min, zero, suc, sym, refl, ap, ◌∙◌, subst, arith}
+use Rattle.std.proofs.Common.{ℕ, ◌+◌, ◌-◌, ◌*◌, ◌<◌, ◌≤◌, ◌≡◌, ◌≢◌, inl, inr, Bool, true, false, ◌&&◌, ◌||◌, List, [], ◌∷◌, eqb, min, zero, suc, sym}
+use Rattle.std.proofs.Common.{refl, ap, ◌∙◌, subst, arith}
 use Rattle.std.proofs.Math.Nat.{le-div_iff_mul-le, mul-le-mul_right, mul-add}
 use Rattle.std.proofs.lemmas.Bool.{cases_lt, cases_eq, and_parts, and_from, or_cases, or_left, or_right, eqb-true, eq-eqb, ne_eqb, leb-true, le-leb}
 use Rattle.trace_verdict.specs.declared.entries.Entry.{Entry}
@@ -88,14 +89,16 @@ crosses p x l c ne =
     }
 
 -- whether the ticks and the dues meet at the first and at the last of these ends is whether the row holds
-pub row_by_ends : (p : Periods) (x : Stretch) (done : ℕ) (a b : Bool) → IsCounted p x → x.before ≢ x.after → a ≡ eqb (done + (bound_at p (x.before + 1) - x.from)) ((x.before + 1) * p.due)
+pub row_by_ends : (p : Periods) (x : Stretch) (done : ℕ) (a b : Bool) → IsCounted p x → x.before ≢ x.after →
+    a ≡ eqb (done + (bound_at p (x.before + 1) - x.from)) ((x.before + 1) * p.due)
     → b ≡ eqb (done + (bound_at p x.after - x.from)) (x.after * p.due) → (a && b) ≡ row_holds p done x.from x.to
 row_by_ends p x done a b c ne e f =
     let meets : ℕ → Bool = λ k. eqb (done + (bound_at p k - x.from)) (k * p.due) in
     let crossed : eqb (ended_by p x.from) (ended_by p x.to) ≡ false = ne_eqb _ _ (λ q. ne (c.before ∙ (q ∙ sym c.after))) in
     let first : a ≡ meets (ended_by p x.from + 1) = e ∙ ap (λ k. meets (k + 1)) c.before in
     let last : b ≡ meets (ended_by p x.to) = f ∙ ap meets c.after in
-    ap (λ w. w && b) first ∙ (ap (λ w. meets (ended_by p x.from + 1) && w) last ∙ sym (ap (λ w. w || (meets (ended_by p x.from + 1) && meets (ended_by p x.to))) crossed))
+    ap (λ w. w && b) first ∙ (ap (λ w. meets (ended_by p x.from + 1) && w) last
+    ∙ sym (ap (λ w. w || (meets (ended_by p x.from + 1) && meets (ended_by p x.to))) crossed))
 
 -- ---- a gap between rows
 
@@ -126,7 +129,8 @@ gap_back p done x y l b u all =
       | inr ne ↦ (
           let below : ended_by p x < ended_by p y = omega (arith, grows, ne) in
           let last = all (ended_by p y) (past_counted p x _ l.some_period b below) (counted_from p y _ l.some_period (omega (arith, b, u)) (omega arith)) in
-          let first = all (ended_by p x + 1) (past_counted p x _ l.some_period b (omega arith)) (counted_from p y _ l.some_period (omega (arith, b, u)) (omega (arith, below))) in
+          let first = all (ended_by p x + 1) (past_counted p x _ l.some_period b (omega arith)) (counted_from p y _ l.some_period (omega (arith, b, u))
+          (omega (arith, below))) in
           let one : ended_by p x + 1 ≡ ended_by p y = elim (cases_lt (ended_by p x + 1) (ended_by p y)) [
             | inl less ↦ absurd (times_apart _ _ p.due l.some_due less (sym first ∙ last))
             | inr far ↦ omega (arith, below, far)
@@ -170,12 +174,14 @@ row_to p done x y l b u g k low high =
     elim (or_cases _ _ g) [
       | inl e ↦ (let f : ended_by p x ≡ ended_by p y = eqb-true _ _ e in absurd (omega (arith, a, c, f)))
       | inr e ↦ (
-          let q = and_parts (eqb (done + (bound_at p (ended_by p x + 1) - x)) ((ended_by p x + 1) * p.due)) (eqb (done + (bound_at p (ended_by p y) - x)) (ended_by p y * p.due)) e in
+          let q = and_parts (eqb (done + (bound_at p (ended_by p x + 1) - x)) ((ended_by p x + 1) * p.due)) (eqb (done + (bound_at p (ended_by p y) - x))
+          (ended_by p y * p.due)) e in
           let f : done + (bound_at p (ended_by p x + 1) - x) ≡ (ended_by p x + 1) * p.due = eqb-true _ _ q.0 in
           let h : done + (bound_at p (ended_by p y) - x) ≡ ended_by p y * p.due = eqb-true _ _ q.1 in
           let m : x < bound_at p (ended_by p x + 1) = past_counted p x _ l.some_period b (omega arith) in
           let n : x < bound_at p (ended_by p y) = past_counted p x _ l.some_period b (omega (arith, a, c)) in
-          let meet = lines_meet (done + p.base) x (ended_by p x + 1) k (ended_by p y) p.period p.due (omega (arith, a)) c (omega (arith, f, m)) (omega (arith, h, n)) in
+          let meet = lines_meet (done + p.base) x (ended_by p x + 1) k (ended_by p y) p.period p.due (omega (arith, a)) c (omega (arith, f, m))
+          (omega (arith, h, n)) in
           omega (arith, meet, low))
     ]
 
@@ -188,7 +194,8 @@ row_back p done x y l b u all =
       | inr ne ↦ (
           let below : ended_by p x < ended_by p y = omega (arith, grows, ne) in
           let last = all (ended_by p y) (past_counted p x _ l.some_period b below) (counted_from p y _ l.some_period (omega (arith, b, u)) (omega arith)) in
-          let first = all (ended_by p x + 1) (past_counted p x _ l.some_period b (omega arith)) (counted_from p y _ l.some_period (omega (arith, b, u)) (omega (arith, below))) in
+          let first = all (ended_by p x + 1) (past_counted p x _ l.some_period b (omega arith)) (counted_from p y _ l.some_period (omega (arith, b, u))
+          (omega (arith, below))) in
           or_right _ _ (and_from _ _ (eq-eqb _ _ first) (eq-eqb _ _ last)))
     ]
 
@@ -203,7 +210,8 @@ pub Follows-le : (stop x : ℕ) (rows : List Entry) → Follows stop x rows → 
 Follows-le stop x [] f = f
 Follows-le stop x (r ∷ rs) f = let rest = Follows-le stop r.end rs f.2 in omega (arith, rest, f.0, f.1)
 
-pub holds_to : (p : Periods) (done x : ℕ) (rows : List Entry) → AreLawful p → p.base ≤ x → Follows p.stop x rows → holds_from p done x rows ≡ true → Meets p done x rows
+pub holds_to : (p : Periods) (done x : ℕ) (rows : List Entry) → AreLawful p → p.base ≤ x → Follows p.stop x rows → holds_from p done x rows ≡ true →
+    Meets p done x rows
 holds_to p done x [] l b f h =
     let q = and_parts _ _ h in
     let top = leb-true _ _ q.1 in
@@ -236,7 +244,8 @@ holds_to p done x (r ∷ rs) l b f h =
       all = (let e = rest.all in omega (arith, e, past, f.1));
     }
 
-pub holds_back : (p : Periods) (done x : ℕ) (rows : List Entry) → AreLawful p → p.base ≤ x → Follows p.stop x rows → Meets p done x rows → holds_from p done x rows ≡ true
+pub holds_back : (p : Periods) (done x : ℕ) (rows : List Entry) → AreLawful p → p.base ≤ x → Follows p.stop x rows → Meets p done x rows →
+    holds_from p done x rows ≡ true
 holds_back p done x [] l b f m =
     let top = m.all in
     and_from _ _
@@ -274,14 +283,16 @@ before_all stop x (r ∷ rs) b f h =
 pub bounds_rise : (p : Periods) (k : ℕ) → bound_at p (k + 1) ≡ bound_at p k + p.period
 bounds_rise p k = omega arith
 
-pub dues_at : (p : Periods) (rows : List Entry) → AreLawful p → Follows p.stop p.base rows → Meets p 0 p.base rows → (k : ℕ) → bound_at p k ≤ p.stop → before rows (bound_at p k) ≡ k * p.due
+pub dues_at : (p : Periods) (rows : List Entry) → AreLawful p → Follows p.stop p.base rows → Meets p 0 p.base rows → (k : ℕ) → bound_at p k ≤ p.stop →
+    before rows (bound_at p k) ≡ k * p.due
 dues_at p rows l f m zero h = let e = before_none p.stop p.base rows (bound_at p 0) f (omega arith) in omega (arith, e)
 dues_at p rows l f m (suc k) h =
     let some = l.some_period in
     let e = m.each (suc k) (omega (arith, some)) h in
     omega (arith, e)
 
-pub supplied_to : (p : Periods) (rows : List Entry) → AreLawful p → p.base ≤ p.stop → Follows p.stop p.base rows → holds_from p 0 p.base rows ≡ true → IsSupplied p rows
+pub supplied_to : (p : Periods) (rows : List Entry) → AreLawful p → p.base ≤ p.stop → Follows p.stop p.base rows → holds_from p 0 p.base rows ≡ true →
+    IsSupplied p rows
 supplied_to p rows l b f h =
     let m : Meets p 0 p.base rows = holds_to p 0 p.base rows l (omega arith) f h in
     let dues : (k : ℕ) → bound_at p k ≤ p.stop → before rows (bound_at p k) ≡ k * p.due = dues_at p rows l f m in
@@ -310,7 +321,8 @@ supplied_to p rows l b f h =
       ]);
     }
 
-pub dues_from : (p : Periods) (rows : List Entry) → AreLawful p → Follows p.stop p.base rows → IsSupplied p rows → (k : ℕ) → bound_at p k ≤ p.stop → before rows (bound_at p k) ≡ k * p.due
+pub dues_from : (p : Periods) (rows : List Entry) → AreLawful p → Follows p.stop p.base rows → IsSupplied p rows → (k : ℕ) → bound_at p k ≤ p.stop →
+    before rows (bound_at p k) ≡ k * p.due
 dues_from p rows l f s zero h = let e = before_none p.stop p.base rows (bound_at p 0) f (omega arith) in omega (arith, e)
 dues_from p rows l f s (suc k) h =
     let rise = bounds_rise p k in
@@ -321,7 +333,8 @@ dues_from p rows l f s (suc k) h =
     let here = ap (λ w. before rows (bound_at p w)) one in
     omega (arith, low, split, due, here)
 
-pub supplied_back : (p : Periods) (rows : List Entry) → AreLawful p → p.base ≤ p.stop → Follows p.stop p.base rows → IsSupplied p rows → holds_from p 0 p.base rows ≡ true
+pub supplied_back : (p : Periods) (rows : List Entry) → AreLawful p → p.base ≤ p.stop → Follows p.stop p.base rows → IsSupplied p rows →
+    holds_from p 0 p.base rows ≡ true
 supplied_back p rows l b f s =
     let begins : bound_at p (ended_by p p.stop) ≤ p.stop = counted_from p p.stop (ended_by p p.stop) l.some_period b (omega arith) in
     let ends : p.stop < bound_at p (ended_by p p.stop + 1) = past_counted p p.stop (ended_by p p.stop + 1) l.some_period b (omega arith) in

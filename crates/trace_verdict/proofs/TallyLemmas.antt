@@ -1,5 +1,6 @@
 -- A tally of a task's rows, part by part.
-use Rattle.std.proofs.Common.{ℕ, suc, ◌+◌, ◌<◌, ◌≤◌, ◌≡◌, List, [], ◌∷◌, ◌++◌, length, map, get_or, take, refl, sym, ap, ◌∙◌, subst, arith, append_assoc, length-append}
+use Rattle.std.proofs.Common.{ℕ, suc, ◌+◌, ◌<◌, ◌≤◌, ◌≡◌, List, [], ◌∷◌, ◌++◌, length, map, get_or, take, refl, sym, ap, ◌∙◌, subst, arith}
+use Rattle.std.proofs.Common.{append_assoc, length-append}
 use Rattle.std.specs.List.{AllByRecursion}
 use Rattle.std.proofs.lemmas.List.{get_or_append_left, map-append, length-map, length-take-le, take_all, take_more}
 use Rattle.sched_base.specs.declared.rows.Row.{Row}
@@ -30,7 +31,8 @@ goes_then p xs ys a b c g h = record {
 }
 
 -- one row of a list more
-pub goes_next : (p : Periods) (rows : List Row) (i : ℕ) (d : Row) (a b c : Tally) → i < length rows → Goes p (take i rows) a b → Goes p (get_or rows i d ∷ []) b c → Goes p (take (i + 1) rows) a c
+pub goes_next : (p : Periods) (rows : List Row) (i : ℕ) (d : Row) (a b c : Tally) → i < length rows → Goes p (take i rows) a b →
+    Goes p (get_or rows i d ∷ []) b c → Goes p (take (i + 1) rows) a c
 goes_next p rows i d a b c h g one = subst (λ xs. Goes p xs a c) (sym (take_more rows i d h)) (goes_then p (take i rows) (get_or rows i d ∷ []) a b c g one)
 
 pub goes_all : (p : Periods) (rows : List Row) (i : ℕ) (a b : Tally) → length rows ≤ i → Goes p (take i rows) a b → Goes p rows a b
@@ -50,7 +52,11 @@ pub rows_in : (p : Periods) (rows : List Row) (places : List ℕ) → AreInPerio
 rows_in p rows [] a = tt
 rows_in p rows (x ∷ places) a = (
   record { begun = a.begun 0 (omega arith); long = a.long 0 (omega arith) },
-  rows_in p rows places (record { within = λ i h. a.within (suc i) (omega (arith, h)); begun = λ i h. a.begun (suc i) (omega (arith, h)); long = λ i h. a.long (suc i) (omega (arith, h)) }),
+  rows_in p rows places (record {
+    within = λ i h. a.within (suc i) (omega (arith, h));
+    begun = λ i h. a.begun (suc i) (omega (arith, h));
+    long = λ i h. a.long (suc i) (omega (arith, h));
+  }),
 )
 
 pub in_front : (p : Periods) (rows : List Row) (xs ys : List ℕ) → AreInPeriods p rows (xs ++ ys) → AreInPeriods p rows xs
@@ -77,7 +83,8 @@ pub record Tells (p : Periods) (rows left : List Row) (t : Tally) : Type 0 where
   pub few_preempted : t.found.preemptions + length left ≤ length rows
   pub few_moved : t.found.migrations + length left ≤ length rows
 
-pub tells_less : (p : Periods) (rows left now later : List Row) (a b : Tally) → left ≡ now ++ later → Tells p rows left a → Goes p now a b → Tells p rows later b
+pub tells_less : (p : Periods) (rows left now later : List Row) (a b : Tally) → left ≡ now ++ later → Tells p rows left a → Goes p now a b →
+    Tells p rows later b
 tells_less p rows left now later a b e t g =
     let many : length left ≡ length now + length later = ap length e ∙ length-append now later in
     let x = t.few_preempted in
@@ -100,7 +107,8 @@ tells_all p rows t e =
     let d = e.slowest in
     record { preemptions = omega (arith, a); migrations = omega (arith, b); response = omega (arith, d) }
 
-pub tells_first : (p : Periods) (r : Row) (rows : List Row) (t : Tally) → KeepsPace p t → t.before ≡ r → t.found.preemptions ≡ 0 → t.found.migrations ≡ 0 → t.found.response ≡ row_response p r
+pub tells_first : (p : Periods) (r : Row) (rows : List Row) (t : Tally) → KeepsPace p t → t.before ≡ r → t.found.preemptions ≡ 0 → t.found.migrations ≡ 0 →
+    t.found.response ≡ row_response p r
     → Tells p (r ∷ rows) rows t
 tells_first p r rows t k before a b d = record {
   pace = k;
@@ -112,7 +120,8 @@ tells_first p r rows t k before a b d = record {
 }
 
 -- a part of what is left was fetched, and the tally went through it
-pub tells_later : (p : Periods) (rows taken : List Row) (all : List Row) (left now later : List ℕ) (a b : Tally) → left ≡ now ++ later → taken ≡ map (row_at rows) now
+pub tells_later : (p : Periods) (rows taken : List Row) (all : List Row) (left now later : List ℕ) (a b : Tally) → left ≡ now ++ later →
+    taken ≡ map (row_at rows) now
     → Tells p all (map (row_at rows) left) a → Goes p taken a b → Tells p all (map (row_at rows) later) b
 tells_later p rows taken all left now later a b e f t g =
     let split : map (row_at rows) left ≡ taken ++ map (row_at rows) later
@@ -120,7 +129,8 @@ tells_later p rows taken all left now later a b e f t g =
     tells_less p all (map (row_at rows) left) taken (map (row_at rows) later) a b split t g
 
 -- a part of what is left adds no more to the counts than its rows
-pub tells_few : (p : Periods) (rows taken : List Row) (first : Row) (places left now later : List ℕ) (t : Tally) → left ≡ now ++ later → taken ≡ map (row_at rows) now
+pub tells_few : (p : Periods) (rows taken : List Row) (first : Row) (places left now later : List ℕ) (t : Tally) → left ≡ now ++ later →
+    taken ≡ map (row_at rows) now
     → Tells p (first ∷ map (row_at rows) places) (map (row_at rows) left) t
     → (t.found.preemptions + length taken ≤ length places + 1) × (t.found.migrations + length taken ≤ length places + 1)
 tells_few p rows taken first places left now later t e f told =

@@ -20,7 +20,8 @@ use Rattle.trace_verdict.proofs.OverlapLemmas.{Before, Rising, clash_from}
 abbrev pub entry_ticks : ℕ → ℕ → ℕ → Entry → ℕ
 entry_ticks j a b e = bit (eqb e.key j) * overlap e.start e.end a b
 
-pub one_row : (j a b : ℕ) (r : Row) (i : ℕ) (leaf : Leaf) → sum_by (entry_ticks j a b) (entry_of (leaf_key leaf) r i) ≡ bit (is_of_task j leaf) * overlap r.start r.end a b
+pub one_row : (j a b : ℕ) (r : Row) (i : ℕ) (leaf : Leaf) → sum_by (entry_ticks j a b) (entry_of (leaf_key leaf) r i) ≡ bit (is_of_task j leaf) * overlap
+    r.start r.end a b
 one_row j a b r i (leaves.Task id) = omega arith
 one_row j a b r i (leaves.Wait id) = omega arith
 one_row j a b r i (leaves.Idle k) = omega arith
@@ -41,7 +42,8 @@ part_ticks j a b (e ∷ es) =
     let cons = sum_by-cons (entry_ticks j a b) e es in
     elim (cases_Bool (eqb e.key j)) [
       | inl yes_key ↦ (
-          let here : ticks_in (part j (e ∷ es)) a b ≡ overlap e.start e.end a b + ticks_in (part j es) a b = ap (λ t. ticks_in (cond t (e ∷ part j es) (part j es)) a b) yes_key in
+          let here : ticks_in (part j (e ∷ es)) a b ≡ overlap e.start e.end a b + ticks_in (part j es) a b =
+          ap (λ t. ticks_in (cond t (e ∷ part j es) (part j es)) a b) yes_key in
           let one = ap (λ t. bit t * overlap e.start e.end a b) yes_key in
           omega (arith, here, rest, one, cons))
       | inr other ↦ (
@@ -51,14 +53,16 @@ part_ticks j a b (e ∷ es) =
     ]
 
 -- a task's part of the entries has just the ticks of its rows
-pub task_part_ticks : (j a b : ℕ) (rows : List Row) (es : List Entry) → IsPermutation (entries_from task_key 0 rows) es → ticks_in (part j es) a b ≡ task_ticks rows j a b
+pub task_part_ticks : (j a b : ℕ) (rows : List Row) (es : List Entry) → IsPermutation (entries_from task_key 0 rows) es → ticks_in (part j es) a
+    b ≡ task_ticks rows j a b
 task_part_ticks j a b rows es p = part_ticks j a b es ∙ (sum_by-IsPermutation (entry_ticks j a b) (entries_from task_key 0 rows) es p ∙ rows_ticks j a b 0 rows)
 
 -- every entry of key j starts at x or later
 abbrev pub Starts : ℕ → ℕ → List Entry → Type 0
 Starts j x es = AllByRecursion (λ e. e.key ≡ j → x ≤ e.start) es
 
-pub starts_after : (n stop : ℕ) (base : ℕ → ℕ) (j : ℕ) (e : Entry) (es : List Entry) → e.key ≡ j → IsWithin n stop base e → AllByRecursion (IsWithin n stop base) es
+pub starts_after : (n stop : ℕ) (base : ℕ → ℕ) (j : ℕ) (e : Entry) (es : List Entry) → e.key ≡ j → IsWithin n stop base e →
+    AllByRecursion (IsWithin n stop base) es
     → AllByRecursion (Before e) es → AllByRecursion (λ f. clash n e f ≡ false) es → Starts j e.end es
 starts_after n stop base j e [] k w all up d = tt
 starts_after n stop base j e (f ∷ es) k w all up d = (
@@ -72,7 +76,8 @@ starts_after n stop base j e (f ∷ es) k w all up d = (
   starts_after n stop base j e es k w all.1 up.1 d.1,
 )
 
-pub follows_part : (n stop : ℕ) (base : ℕ → ℕ) (j x : ℕ) (es : List Entry) → x ≤ stop → AllByRecursion (IsWithin n stop base) es → Rising es → IsDistinct (clash n) es → Starts j x es → Follows stop x (part j es)
+pub follows_part : (n stop : ℕ) (base : ℕ → ℕ) (j x : ℕ) (es : List Entry) → x ≤ stop → AllByRecursion (IsWithin n stop base) es → Rising es →
+    IsDistinct (clash n) es → Starts j x es → Follows stop x (part j es)
 unfolding IsDistinct
 follows_part n stop base j x [] h all rise d st = h
 follows_part n stop base j x (e ∷ es) h all rise d st =

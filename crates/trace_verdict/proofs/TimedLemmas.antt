@@ -1,5 +1,6 @@
 -- The rows of all tasks, as they go by in the order of time.
-use Rattle.std.proofs.Common.{ℕ, max, ◌+◌, ◌<◌, ◌≤◌, ◌≡◌, ◌≢◌, inl, inr, true, Bool, List, [], ◌∷◌, ◌++◌, length, map, get_or, refl, sym, ap, ◌∙◌, subst, arith, append_assoc, length-append}
+use Rattle.std.proofs.Common.{ℕ, max, ◌+◌, ◌<◌, ◌≤◌, ◌≡◌, ◌≢◌, inl, inr, true, Bool, List, [], ◌∷◌, ◌++◌, length, map, get_or, refl, sym, ap, ◌∙◌}
+use Rattle.std.proofs.Common.{subst, arith, append_assoc, length-append}
 use Rattle.std.specs.List.{AllByRecursion}
 use Rattle.std.proofs.lemmas.Bool.{cases_lt, cases_eq}
 use Rattle.std.proofs.lemmas.List.{map-append, append-nil, get_or_append_left, get_or-set_same, get_or-set_other, length-set}
@@ -43,7 +44,8 @@ pub walked_more : (p : Periods) (rows : List Row) (j : ℕ) (places : List ℕ) 
 walked_more p rows j places place a b w own past =
     let entry : Entry = entry_for j (row_at rows place) place in
     let split : (rest : List Entry) → entries_at rows j (places ++ place ∷ []) ++ rest ≡ entries_at rows j places ++ (entry ∷ rest)
-    = λ rest. ap (λ es. es ++ rest) (map-append (λ x. entry_for j (row_at rows x) x) places (place ∷ [])) ∙ append_assoc (entries_at rows j places) (entry ∷ []) rest in
+    = λ rest. ap (λ es. es ++ rest) (map-append (λ x. entry_for j (row_at rows x) x) places (place ∷ [])) ∙ append_assoc (entries_at rows j places)
+    (entry ∷ []) rest in
     record {
       own = AllByRecursion-append (IsPlaceOf rows j) places (place ∷ []) w.own (own, tt);
       apart = λ rest h. subst (Follows p.stop p.base) (sym (split rest)) (w.apart (entry ∷ rest) (past.holds rest h));
@@ -52,7 +54,8 @@ walked_more p rows j places place a b w own past =
 
 -- ---- one task's tally
 
-pub tallied_first : (p : Periods) (r : Row) (t : Tally) → KeepsPace p t → t.before ≡ r → t.found.preemptions ≡ 0 → t.found.migrations ≡ 0 → t.found.response ≡ row_response p r → Tallied p (r ∷ []) t
+pub tallied_first : (p : Periods) (r : Row) (t : Tally) → KeepsPace p t → t.before ≡ r → t.found.preemptions ≡ 0 → t.found.migrations ≡ 0 →
+    t.found.response ≡ row_response p r → Tallied p (r ∷ []) t
 tallied_first p r t k before a b d = record {
   pace = k;
   preempted = λ rest. (let e = ap (λ w. pairs_from (goes_on is_preemption p) w rest) before in omega (arith, a, e));
@@ -85,7 +88,8 @@ tallied_all p rows t e =
 
 -- ---- both
 
-pub gone_none : (rows : List Row) (j : ℕ) (t : TaskWalk) → IsReady t → t.count ≡ 0 → t.tick ≡ t.periods.base → t.done ≡ 0 → ((p : Periods) → IsTold p [] t.found) → HasGone rows j t
+pub gone_none : (rows : List Row) (j : ℕ) (t : TaskWalk) → IsReady t → t.count ≡ 0 → t.tick ≡ t.periods.base → t.done ≡ 0 →
+    ((p : Periods) → IsTold p [] t.found) → HasGone rows j t
 gone_none rows j t ready count tick done told = record {
   ready = ready;
   places = [];
@@ -127,15 +131,18 @@ tally_alike : (p : Periods) (rows : List Row) (t u : Tally) → Tallied p rows t
 tally_alike p rows t u e before found k =
     record {
       pace = k;
-      preempted = λ rest. ap (λ (f : Findings). f.preemptions + pairs_from (goes_on is_preemption p) u.before rest) found ∙ (ap (λ b. t.found.preemptions + pairs_from (goes_on is_preemption p) b rest) before ∙ e.preempted rest);
-      moved = λ rest. ap (λ (f : Findings). f.migrations + pairs_from (goes_on is_migration p) u.before rest) found ∙ (ap (λ b. t.found.migrations + pairs_from (goes_on is_migration p) b rest) before ∙ e.moved rest);
+      preempted = λ rest. ap (λ (f : Findings). f.preemptions + pairs_from (goes_on is_preemption p) u.before rest) found
+          ∙ (ap (λ b. t.found.preemptions + pairs_from (goes_on is_preemption p) b rest) before ∙ e.preempted rest);
+      moved = λ rest. ap (λ (f : Findings). f.migrations + pairs_from (goes_on is_migration p) u.before rest) found
+          ∙ (ap (λ b. t.found.migrations + pairs_from (goes_on is_migration p) b rest) before ∙ e.moved rest);
       slowest = λ rest. ap (λ (f : Findings). max f.response (greatest_of (row_response p) rest)) found ∙ e.slowest rest;
       few_preempted = subst (λ (f : Findings). f.preemptions ≤ length rows) (sym found) e.few_preempted;
       few_moved = subst (λ (f : Findings). f.migrations ≤ length rows) (sym found) e.few_moved;
     }
 
 -- a row more goes by
-pub gone_more : (rows : List Row) (j place begin next owed : ℕ) (a : TaskWalk) (w : Walk) (t : Tally) → HasGone rows j a → a.count < a.limit → IsPlaceOf rows j place
+pub gone_more : (rows : List Row) (j place begin next owed : ℕ) (a : TaskWalk) (w : Walk) (t : Tally) → HasGone rows j a → a.count < a.limit →
+    IsPlaceOf rows j place
     → GoesPast a.periods (entry_for j (row_at rows place) place ∷ []) (walk_of a) w → (a.count ≡ 0 → Tallied a.periods (row_at rows place ∷ []) t)
     → (a.count ≢ 0 → Goes a.periods (row_at rows place ∷ []) (tally_of a) t) → IsPaced (walk_after a w t begin next owed)
     → HasGone rows j (walk_after a w t begin next owed)
@@ -189,7 +196,8 @@ ends_late rows j t late g =
     }
 
 -- the rows that went by give each period its due
-pub ends_in_time : (rows : List Row) (j : ℕ) (t : TaskWalk) (r : Bool) → t.periods.base ≤ t.periods.stop → r ≡ holds_from t.periods t.done t.tick [] → r ≡ true → HasGone rows j t
+pub ends_in_time : (rows : List Row) (j : ℕ) (t : TaskWalk) (r : Bool) → t.periods.base ≤ t.periods.stop → r ≡ holds_from t.periods t.done t.tick [] →
+    r ≡ true → HasGone rows j t
     → EndsAs t.periods rows j t.count t.found
 ends_in_time rows j t r begun is on g =
     let p : Periods = t.periods in
@@ -221,11 +229,13 @@ pub going_none : (s : SetContents) (l : ℕ) (rows : List Row) → AreGoing s l 
 going_none s l rows = record { each = λ i none low h. absurd (omega (arith, h)); periods = λ i none h. absurd (omega (arith, h)) }
 
 -- a task more
-pub going_more : (s : SetContents) (l : ℕ) (rows : List Row) (j : ℕ) (walks : List TaskWalk) (t : TaskWalk) → length walks ≡ j → AreGoing s l rows 0 walks → HasGone rows j t
+pub going_more : (s : SetContents) (l : ℕ) (rows : List Row) (j : ℕ) (walks : List TaskWalk) (t : TaskWalk) → length walks ≡ j → AreGoing s l rows 0 walks →
+    HasGone rows j t
     → t.periods ≡ periods_of s l (task_at s.tasks j) → AreGoing s l rows 0 (walks ++ t ∷ [])
 going_more s l rows j walks t size g gone e =
     let all = length-append walks (t ∷ []) in
-    let last : (none : TaskWalk) → get_or (walks ++ t ∷ []) j none ≡ t = λ none. subst (λ k. get_or (walks ++ t ∷ []) k none ≡ t) size (get_or-append_seam walks t [] none) in
+    let last : (none : TaskWalk) → get_or (walks ++ t ∷ []) j none ≡ t = λ none. subst (λ k. get_or (walks ++ t ∷ []) k none ≡ t) size
+    (get_or-append_seam walks t [] none) in
     record {
       each = λ i none low h. (elim (cases_lt i (length walks)) [
         | inl below ↦ subst (HasGone rows i) (sym (get_or_append_left walks (t ∷ []) none i below)) (g.each i none low below)
@@ -242,13 +252,15 @@ going_more s l rows j walks t size g gone e =
     }
 
 -- the walk of task j went on
-pub going_on : (s : SetContents) (l : ℕ) (rows : List Row) (j : ℕ) (walks : List TaskWalk) (old t : TaskWalk) → j < length walks → old ≡ get_or walks j old → AreGoing s l rows 0 walks → HasGone rows j t
+pub going_on : (s : SetContents) (l : ℕ) (rows : List Row) (j : ℕ) (walks : List TaskWalk) (old t : TaskWalk) → j < length walks → old ≡ get_or walks j old
+    → AreGoing s l rows 0 walks → HasGone rows j t
     → t.periods ≡ old.periods → AreGoing s l rows 0 (set walks j t)
 going_on s l rows j walks old t within is g gone e =
     let size : length (set walks j t) ≡ length walks = length-set walks j t in
     record {
       each = λ i none low h. (elim (cases_eq i j) [
-        | inl here ↦ subst (λ k. HasGone rows k (get_or (set walks j t) k none)) (sym here) (subst (HasGone rows j) (sym (get_or-set_same walks j t none within)) gone)
+        | inl here ↦ subst (λ k. HasGone rows k (get_or (set walks j t) k none)) (sym here) (subst (HasGone rows j)
+            (sym (get_or-set_same walks j t none within)) gone)
         | inr other ↦ subst (HasGone rows i) (sym (get_or-set_other walks j i t none other)) (g.each i none low (omega (arith, h, size)))
       ]);
       periods = λ i none h. (elim (cases_eq i j) [
@@ -272,7 +284,8 @@ pub record Gathered (s : SetContents) (l : ℕ) (rows : List Row) (j n : ℕ) (f
 pub gathered_none : (s : SetContents) (l : ℕ) (rows : List Row) → Gathered s l rows 0 0 []
 gathered_none s l rows = record { ordered = []; starts = 0 ∷ []; entries = []; stacked = stacked_none s l rows; told = told_none s l rows; many = refl }
 
-pub gathered_more : (s : SetContents) (l : ℕ) (rows : List Row) (j n m : ℕ) (found : List Findings) (f : Findings) (p : Periods) → Gathered s l rows j n found → p ≡ periods_of s l (task_at s.tasks j) → EndsAs p rows j m f
+pub gathered_more : (s : SetContents) (l : ℕ) (rows : List Row) (j n m : ℕ) (found : List Findings) (f : Findings) (p : Periods) →
+    Gathered s l rows j n found → p ≡ periods_of s l (task_at s.tasks j) → EndsAs p rows j m f
     → Gathered s l rows (j + 1) (n + m) (found ++ f ∷ [])
 gathered_more s l rows j n m found f p g e t =
     let more : List ℕ = g.ordered ++ t.places in
@@ -295,7 +308,8 @@ gathered_few s l rows j n found g =
     let a = g.many in
     omega (arith, most, entries, a)
 
-pub gathered_all : (s : SetContents) (l : ℕ) (rows : List Row) (j n : ℕ) (found : List Findings) → Gathered s l rows j n found → j ≡ length s.tasks → length (entries_from task_key 0 rows) ≤ n → AreTimed s l rows found
+pub gathered_all : (s : SetContents) (l : ℕ) (rows : List Row) (j n : ℕ) (found : List Findings) → Gathered s l rows j n found → j ≡ length s.tasks →
+    length (entries_from task_key 0 rows) ≤ n → AreTimed s l rows found
 gathered_all s l rows j n found g e many =
     let st = subst (λ k. Stacked s l rows k g.ordered g.starts g.entries) e g.stacked in
     let told = subst (λ k. ToldTo s l rows k g.entries found) e g.told in

@@ -1,7 +1,8 @@
 -- The first of the faults.
 use Rattle.std.proofs.Common.{ℕ, ◌*◌, ◌<◌, ◌≤◌, ◌≡◌, ◌⊎◌, inl, inr, Bool, true, false, List, length, Option, ◌&&◌, not, eqb, ltb, leb, sym, refl, subst, arith}
 use Rattle.std.specs.List.{AllByRecursion}
-use Rattle.std.proofs.lemmas.Bool.{cases_lt, both_ways, and_parts, and_from, eqb-true, eqb-false, ltb-true, ltb-false, leb-true, leb-false, not-true, not-false, not_from_false, true_from_ne_false}
+use Rattle.std.proofs.lemmas.Bool.{cases_lt, both_ways, and_parts, and_from, eqb-true, eqb-false, ltb-true, ltb-false, leb-true, leb-false, not-true}
+use Rattle.std.proofs.lemmas.Bool.{not-false, not_from_false, true_from_ne_false}
 use Rattle.sched_base.specs.declared.rows.Row.{Row}
 use Rattle.sched_base.specs.Sets.{SetContents, task_at}
 use Rattle.trace_verdict.specs.Orders.{processor_key, task_key, IsOrder}
@@ -41,7 +42,8 @@ kind_has false false false true P f g h i j = i refl refl refl refl
 kind_has false false false false P f g h i j = j refl refl refl refl
 
 -- no fault of the rows stands before row i
-pub no_fault_before : (s : SetContents) (l : ℕ) (rs : List Row) (u c t i : ℕ) → IsFirstUnfit s l rs u → IsFirstHit processor_key rs c → IsFirstHit task_key rs t → i ≤ u → i ≤ c → i ≤ t → i ≤ length rs
+pub no_fault_before : (s : SetContents) (l : ℕ) (rs : List Row) (u c t i : ℕ) → IsFirstUnfit s l rs u → IsFirstHit processor_key rs c →
+    IsFirstHit task_key rs t → i ≤ u → i ≤ c → i ≤ t → i ≤ length rs
     → (kind : FaultKind) (line : ℕ) → HasFault s l rs kind line → line_of_row s i ≤ line
 no_fault_before s l rs u c t i fu fc ft a b d w Processor line f =
     elim (cases_lt f.0 i) [
@@ -74,7 +76,8 @@ no_fault_before s l rs u c t i fu fc ft a b d w Supply line f = omega (arith, f.
 pub record Lacking (s : SetContents) (l : ℕ) (rs : List Row) (i : ℕ) (kind : FaultKind) : Type 0 where
   pub none : HasFault s l rs kind (line_of_row s i) → ⊥
 
-pub no_processor : (s : SetContents) (l : ℕ) (rs : List Row) (i : ℕ) → ltb (row_at rs i).processor s.processors ≡ true → HasFault s l rs Processor (line_of_row s i) → ⊥
+pub no_processor : (s : SetContents) (l : ℕ) (rs : List Row) (i : ℕ) → ltb (row_at rs i).processor s.processors ≡ true → HasFault s l rs Processor
+    (line_of_row s i) → ⊥
 no_processor s l rs i h f =
     let e : f.0 ≡ i = omega (arith, f.2) in
     let g = subst (λ w. s.processors ≤ (row_at rs w).processor) e f.3 in
@@ -88,7 +91,8 @@ no_end s l rs i h f =
     let a = leb-true _ _ h in
     omega (arith, a, g)
 
-pub no_hit : (key : Row → Option ℕ) (s : SetContents) (rs : List Row) (c i : ℕ) → IsFirstHit key rs c → i < c → (f : ℕ) → f ≡ i → (k : ℕ) × (k < f) × (hits key rs f k ≡ true) → ⊥
+pub no_hit : (key : Row → Option ℕ) (s : SetContents) (rs : List Row) (c i : ℕ) → IsFirstHit key rs c → i < c → (f : ℕ) → f ≡ i → (k : ℕ) × (k < f)
+    × (hits key rs f k ≡ true) → ⊥
 no_hit key s rs c i fc h f e k = both_ways _ (fc.before k.0 f k.1 (omega (arith, e, h))) k.2
 
 pub rank_least : (s : SetContents) (l : ℕ) (rs : List Row) (i : ℕ) (kind other : FaultKind)
@@ -102,7 +106,8 @@ rank_least s l rs i kind TaskOverlap a b c d m f = elim (cases_lt (rank kind) 4)
 rank_least s l rs i kind Early a b c d m f = m
 rank_least s l rs i kind Supply a b c d m f = omega (arith, m)
 
-pub row_verdict : (s : SetContents) (l : ℕ) (rs : List Row) (u c t i line : ℕ) (kind : FaultKind) → IsFirstUnfit s l rs u → IsFirstHit processor_key rs c → IsFirstHit task_key rs t
+pub row_verdict : (s : SetContents) (l : ℕ) (rs : List Row) (u c t i line : ℕ) (kind : FaultKind) → IsFirstUnfit s l rs u → IsFirstHit processor_key rs c →
+    IsFirstHit task_key rs t
     → i ≤ u → i ≤ c → i ≤ t → i < length rs → line ≡ line_of_row s i → ((i ≡ u) ⊎ ((i ≡ c) ⊎ (i ≡ t)))
     → kind ≡ kind_of (not (ltb (row_at rs i).processor s.processors)) (not (leb (row_at rs i).end (s.horizon * l))) (eqb c i) (eqb t i)
     → IsVerdict s l rs (Fault line kind)
@@ -122,18 +127,24 @@ row_verdict s l rs u c t i line kind fu fc ft a b d w e which g =
                 inr (same, rank_least s l rs i k other one two three four most (subst (HasFault s l rs other) (sym same) f)))
           ],
     ) in
-    let processor_ok : not (ltb (row_at rs i).processor s.processors) ≡ false → HasFault s l rs Processor (line_of_row s i) → ⊥ = λ h. no_processor s l rs i (not-false _ h) in
+    let processor_ok : not (ltb (row_at rs i).processor s.processors) ≡ false → HasFault s l rs Processor (line_of_row s i) → ⊥ = λ h. no_processor s l rs i
+    (not-false _ h) in
     let end_ok : not (leb (row_at rs i).end (s.horizon * l)) ≡ false → HasFault s l rs End (line_of_row s i) → ⊥ = λ h. no_end s l rs i (not-false _ h) in
-    let hit_ok : eqb c i ≡ false → HasFault s l rs ProcessorOverlap (line_of_row s i) → ⊥ = λ h f. (let ne = eqb-false c i h in no_hit processor_key s rs c i fc (omega (arith, b, ne)) f.0 (omega (arith, f.2)) (hit_of_processor rs f.0 f.3)) in
-    let task_ok : eqb t i ≡ false → HasFault s l rs TaskOverlap (line_of_row s i) → ⊥ = λ h f. (let ne = eqb-false t i h in no_hit task_key s rs t i ft (omega (arith, d, ne)) f.0 (omega (arith, f.2)) (hit_of_task rs f.0 f.3)) in
+    let hit_ok : eqb c i ≡ false → HasFault s l rs ProcessorOverlap (line_of_row s i) → ⊥ = λ h f. (let ne = eqb-false c i h in no_hit processor_key s rs c
+    i fc (omega (arith, b, ne)) f.0 (omega (arith, f.2)) (hit_of_processor rs f.0 f.3)) in
+    let task_ok : eqb t i ≡ false → HasFault s l rs TaskOverlap (line_of_row s i) → ⊥ = λ h f. (let ne = eqb-false t i h in no_hit task_key s rs t i ft
+    (omega (arith, d, ne)) f.0 (omega (arith, f.2)) (hit_of_task rs f.0 f.3)) in
     let found : P (kind_of (not (ltb (row_at rs i).processor s.processors)) (not (leb (row_at rs i).end (s.horizon * l))) (eqb c i) (eqb t i)) =
     kind_has (not (ltb (row_at rs i).processor s.processors)) (not (leb (row_at rs i).end (s.horizon * l))) (eqb c i) (eqb t i) P
-    (λ p. rest Processor (i, w, refl, ltb-false _ _ (not-true _ p)) (λ h. absurd (omega (arith, h))) (λ h. absurd (omega (arith, h))) (λ h. absurd (omega (arith, h))) (λ h. absurd (omega (arith, h))) (omega arith))
-    (λ p q. rest End (i, w, refl, leb-false _ _ (not-true _ q)) (λ h. processor_ok p) (λ h. absurd (omega (arith, h))) (λ h. absurd (omega (arith, h))) (λ h. absurd (omega (arith, h))) (omega arith))
+    (λ p. rest Processor (i, w, refl, ltb-false _ _ (not-true _ p)) (λ h. absurd (omega (arith, h))) (λ h. absurd (omega (arith, h)))
+    (λ h. absurd (omega (arith, h))) (λ h. absurd (omega (arith, h))) (omega arith))
+    (λ p q. rest End (i, w, refl, leb-false _ _ (not-true _ q)) (λ h. processor_ok p) (λ h. absurd (omega (arith, h))) (λ h. absurd (omega (arith, h)))
+    (λ h. absurd (omega (arith, h))) (omega arith))
     (λ p q r. (let same : c ≡ i = eqb-true _ _ r in
     let k = fc.at (omega (arith, same, w)) in
     let hit : Hits processor_key rs i = subst (Hits processor_key rs) same k in
-    rest ProcessorOverlap (i, w, refl, processor_hit rs i hit) (λ h. processor_ok p) (λ h. end_ok q) (λ h. absurd (omega (arith, h))) (λ h. absurd (omega (arith, h))) (omega arith)))
+    rest ProcessorOverlap (i, w, refl, processor_hit rs i hit) (λ h. processor_ok p) (λ h. end_ok q) (λ h. absurd (omega (arith, h)))
+    (λ h. absurd (omega (arith, h))) (omega arith)))
     (λ p q r v. (let same : t ≡ i = eqb-true _ _ v in
     let k = ft.at (omega (arith, same, w)) in
     let hit : Hits task_key rs i = subst (Hits task_key rs) same k in
@@ -143,13 +154,16 @@ row_verdict s l rs u c t i line kind fu fc ft a b d w e which g =
     let not_task = eqb-false t i v in
     let same : u ≡ i = elim which [ inl x ↦ sym x | inr y ↦ (elim y [ inl z ↦ absurd (not_hit (sym z)) | inr z ↦ absurd (not_task (sym z)) ]) ] in
     let unfit : is_fit s l (row_at rs i) ≡ false = subst (λ x. is_fit s l (row_at rs x) ≡ false) same (fu.at (omega (arith, same, w))) in
-    let early : is_early s l (row_at rs i) ≡ true = true_from_ne_false _ (λ no_early. both_ways _ unfit (and_from _ _ (and_from _ _ (not-false _ p) (not-false _ q)) (not_from_false _ no_early))) in
-    rest Early (i, w, refl, of_early s l (row_at rs i).start (row_at rs i).leaf early) (λ h. processor_ok p) (λ h. end_ok q) (λ h. hit_ok r) (λ h. task_ok v) (omega arith))) in
+    let early : is_early s l (row_at rs i) ≡ true = true_from_ne_false _ (λ no_early. both_ways _ unfit
+    (and_from _ _ (and_from _ _ (not-false _ p) (not-false _ q)) (not_from_false _ no_early))) in
+    rest Early (i, w, refl, of_early s l (row_at rs i).start (row_at rs i).leaf early) (λ h. processor_ok p) (λ h. end_ok q) (λ h. hit_ok r)
+    (λ h. task_ok v) (omega arith))) in
     subst (λ x. IsVerdict s l rs (Fault x kind)) (sym e) (subst P (sym g) found)
 
 -- ---- no fault of the rows
 
-pub order_within : (s : SetContents) (l : ℕ) (rs : List Row) (es : List Entry) → IsTrace s l rs → IsOrder task_key rs es → ((i : ℕ) → i < length rs → Fit s l (row_at rs i)) → IsAllWithin s l (length rs) es
+pub order_within : (s : SetContents) (l : ℕ) (rs : List Row) (es : List Entry) → IsTrace s l rs → IsOrder task_key rs es → ((i : ℕ) → i < length rs →
+    Fit s l (row_at rs i)) → IsAllWithin s l (length rs) es
 order_within s l rs es t o fit =
     order_has task_key (IsWithin (length rs) (s.horizon * l) (λ j. (task_at s.tasks j).offset * l)) rs es o (λ i c h e.
     let row = all_at (IsTraceRow s) rs t.each i h in
@@ -164,8 +178,10 @@ order_within s l rs es t o fit =
       ends = f.ends;
     })
 
-pub total_verdict : (s : SetContents) (l : ℕ) (rs : List Row) (u c t j line : ℕ) → IsFirstUnfit s l rs u → IsFirstHit processor_key rs c → IsFirstHit task_key rs t
-    → length rs ≤ u → length rs ≤ c → length rs ≤ t → IsFirstUnsupplied s l rs j → j < length s.tasks → line ≡ line_of_total s rs j → IsVerdict s l rs (Fault line Supply)
+pub total_verdict : (s : SetContents) (l : ℕ) (rs : List Row) (u c t j line : ℕ) → IsFirstUnfit s l rs u → IsFirstHit processor_key rs c →
+    IsFirstHit task_key rs t
+    → length rs ≤ u → length rs ≤ c → length rs ≤ t → IsFirstUnsupplied s l rs j → j < length s.tasks → line ≡ line_of_total s rs j →
+    IsVerdict s l rs (Fault line Supply)
 total_verdict s l rs u c t j line fu fc ft a b d fj h e =
     let P : FaultKind → ℕ → Type 0 = λ other at. HasFault s l rs other at → (line < at) ⊎ ((line ≡ at) × (5 ≤ rank other)) in
     ((j, h, e, fj.at h), λ other at. go other at)
@@ -186,11 +202,16 @@ total_verdict s l rs u c t j line fu fc ft a b d fj h e =
 
 pub no_verdict : (s : SetContents) (l : ℕ) (rs : List Row) (u c t j : ℕ) → IsFirstUnfit s l rs u → IsFirstHit processor_key rs c → IsFirstHit task_key rs t
     → length rs ≤ u → length rs ≤ c → length rs ≤ t → IsFirstUnsupplied s l rs j → length s.tasks ≤ j → IsVerdict s l rs Valid
-no_verdict s l rs u c t j fu fc ft a b d fj h Processor at f = (let p = fit_parts s l _ (fu.before f.0 (omega (arith, f.1, a))) in let g = f.3 in omega (arith, p.processor, g))
-no_verdict s l rs u c t j fu fc ft a b d fj h End at f = (let p = fit_parts s l _ (fu.before f.0 (omega (arith, f.1, a))) in let g = f.3 in omega (arith, p.ends, g))
-no_verdict s l rs u c t j fu fc ft a b d fj h ProcessorOverlap at f = (let k = hit_of_processor rs f.0 f.3 in both_ways _ (fc.before k.0 f.0 k.1 (omega (arith, f.1, b))) k.2)
-no_verdict s l rs u c t j fu fc ft a b d fj h TaskOverlap at f = (let k = hit_of_task rs f.0 f.3 in both_ways _ (ft.before k.0 f.0 k.1 (omega (arith, f.1, d))) k.2)
-no_verdict s l rs u c t j fu fc ft a b d fj h Early at f = (let p = fit_parts s l _ (fu.before f.0 (omega (arith, f.1, a))) in both_ways _ p.begins (early_test s l (row_at rs f.0) f.3))
+no_verdict s l rs u c t j fu fc ft a b d fj h Processor at f = (let p = fit_parts s l _ (fu.before f.0 (omega (arith, f.1, a))) in let g = f.3 in
+    omega (arith, p.processor, g))
+no_verdict s l rs u c t j fu fc ft a b d fj h End at f = (let p = fit_parts s l _ (fu.before f.0 (omega (arith, f.1, a))) in let g = f.3 in
+    omega (arith, p.ends, g))
+no_verdict s l rs u c t j fu fc ft a b d fj h ProcessorOverlap at f = (let k = hit_of_processor rs f.0 f.3 in
+    both_ways _ (fc.before k.0 f.0 k.1 (omega (arith, f.1, b))) k.2)
+no_verdict s l rs u c t j fu fc ft a b d fj h TaskOverlap at f = (let k = hit_of_task rs f.0 f.3 in
+    both_ways _ (ft.before k.0 f.0 k.1 (omega (arith, f.1, d))) k.2)
+no_verdict s l rs u c t j fu fc ft a b d fj h Early at f = (let p = fit_parts s l _ (fu.before f.0 (omega (arith, f.1, a))) in
+    both_ways _ p.begins (early_test s l (row_at rs f.0) f.3))
 no_verdict s l rs u c t j fu fc ft a b d fj h Supply at f = fj.before f.0 f.3.0 (omega (arith, f.1, h)) f.3.1
 
 -- the verdict is Valid exactly where the rows are

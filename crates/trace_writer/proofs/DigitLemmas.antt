@@ -1,5 +1,6 @@
 -- Digits that are written in parts.
-use Rattle.std.proofs.Common.{ℕ, Fits, w32, w64, zero, suc, ◌+◌, ◌-◌, ◌*◌, ◌/◌, ◌%◌, ◌^◌, ◌<◌, ◌≤◌, ◌≡◌, List, [], ◌∷◌, ◌++◌, length, take, refl, sym, subst, ap, ◌∙◌, arith, append_assoc, append-nil, length-append}
+use Rattle.std.proofs.Common.{ℕ, Fits, w32, w64, zero, suc, ◌+◌, ◌-◌, ◌*◌, ◌/◌, ◌%◌, ◌^◌, ◌<◌, ◌≤◌, ◌≡◌, List, [], ◌∷◌, ◌++◌, length, take, refl, sym}
+use Rattle.std.proofs.Common.{subst, ap, ◌∙◌, arith, append_assoc, append-nil, length-append}
 use Rattle.std.specs.Fmt.{decimal}
 use Rattle.std.proofs.Math.Nat.{mul_left_comm}
 use Rattle.std.proofs.lemmas.Fmt.{decimal_digit, decimal_step_wide}
@@ -47,7 +48,8 @@ low_parts j (suc k) q m few =
     ∙ ap (λ ds. ds ++ (48 + m % 10) ∷ []) rest ∙ append_assoc (low_digits j q) (low_digits k (m / 10)) _
 
 -- the last sixteen digits, as two times eight
-pub two_eights : (n : ℕ) (old middle whole : List ℕ) → middle ≡ old ++ low_digits 8 (n / 10 ^ 8) → whole ≡ middle ++ low_digits 8 (n % 10 ^ 8) → whole ≡ old ++ low_digits 16 n
+pub two_eights : (n : ℕ) (old middle whole : List ℕ) → middle ≡ old ++ low_digits 8 (n / 10 ^ 8) → whole ≡ middle ++ low_digits 8 (n % 10 ^ 8) →
+    whole ≡ old ++ low_digits 16 n
 two_eights n old middle whole front last =
     let e : n / 10 ^ 8 * 10 ^ 8 + n % 10 ^ 8 ≡ n = omega arith in
     last ∙ ap (λ xs. xs ++ low_digits 8 (n % 10 ^ 8)) front ∙ append_assoc old (low_digits 8 (n / 10 ^ 8)) _
@@ -73,7 +75,8 @@ sixteen_length n long fits = ap length (sixteen_parts n long fits) ∙ length-ap
 
 -- the digits in front were written, and then the others
 pub then_written : (front back all old middle whole : List ℕ) → all ≡ front ++ back → middle ≡ old ++ front → whole ≡ middle ++ back → whole ≡ old ++ all
-then_written front back all old middle whole parts first last = last ∙ ap (λ xs. xs ++ back) first ∙ append_assoc old front back ∙ ap (λ ys. old ++ ys) (sym parts)
+then_written front back all old middle whole parts first last = last ∙ ap (λ xs. xs ++ back) first ∙ append_assoc old front back ∙ ap (λ ys. old ++ ys)
+    (sym parts)
 
 -- ---- numbers of at most eight digits
 
@@ -98,7 +101,8 @@ low_length zero n = refl
 low_length (suc k) n = length-append (low_digits k (n / 10)) ((48 + n % 10) ∷ []) ∙ ap (λ l. l + 1) (low_length k (n / 10)) ∙ omega arith
 
 -- one of c + 1 digits, with k times 0 behind them, is one of eight that begins with these
-pub raised_is : (c k n raised : ℕ) → c + k ≡ 7 → raised ≡ n * powers k → raised < 10 ^ 8 → n < 10 ^ 8 → n < powers (suc c) → (1 ≤ c → powers c ≤ n) → IsRaised n (suc c) raised
+pub raised_is : (c k n raised : ℕ) → c + k ≡ 7 → raised ≡ n * powers k → raised < 10 ^ 8 → n < 10 ^ 8 → n < powers (suc c) → (1 ≤ c → powers c ≤ n) →
+    IsRaised n (suc c) raised
 raised_is c k n raised eight is few fits short long =
     let all = all_digits c n (omega (arith, fits)) short long in
     let count = low_length (suc c) n in
@@ -106,7 +110,8 @@ raised_is c k n raised eight is few fits short long =
     let parts : low_digits (k + suc c) (n * powers k + 0) ≡ low_digits (suc c) n ++ low_digits k 0 = low_parts (suc c) k n 0 (omega (arith, some)) in
     let e : n * powers k + 0 ≡ raised = omega (arith, is) in
     let e' : k + suc c ≡ 8 = omega (arith, eight) in
-    let parts' : low_digits 8 raised ≡ low_digits (suc c) n ++ low_digits k 0 = sym (ap (λ j. low_digits j (n * powers k + 0)) e' ∙ ap (λ m. low_digits 8 m) e) ∙ parts in
+    let parts' : low_digits 8 raised ≡ low_digits (suc c) n ++ low_digits k 0 = sym (ap (λ j. low_digits j (n * powers k + 0)) e' ∙ ap (λ m. low_digits 8 m)
+    e) ∙ parts in
     record {
       few = few;
       within = omega (arith, eight);
@@ -115,7 +120,8 @@ raised_is c k n raised eight is few fits short long =
     }
 
 -- so where a number of 24 digits more has len of them
-pub raised_of_len : (len c k n raised : ℕ) → len ≡ 25 + c → c + k ≡ 7 → raised ≡ n * powers k → raised < 10 ^ 8 → n < 10 ^ 8 → n < powers (suc c) → (1 ≤ c → powers c ≤ n)
+pub raised_of_len : (len c k n raised : ℕ) → len ≡ 25 + c → c + k ≡ 7 → raised ≡ n * powers k → raised < 10 ^ 8 → n < 10 ^ 8 → n < powers (suc c) →
+    (1 ≤ c → powers c ≤ n)
     → IsRaised n (len - 24) raised
 raised_of_len len c k n raised len_is eight is few fits short long =
     let e : suc c ≡ len - 24 = omega (arith, len_is) in
@@ -133,15 +139,18 @@ pub cut_is : (n high : ℕ) → n < 2 ^ 128 → high < 2 ^ 64 → (n + (2 ^ 128 
 cut_is n high fits few short = omega (arith, fits, few, short)
 
 -- the first digits of a number were put, eight more, and the last sixteen
-pub parts_put : (high low raised len : ℕ) (first middle whole : List ℕ) → 10 ^ 8 ≤ high → high < 2 ^ 64 → low < 10 ^ 16 → 25 ≤ len → IsRaised (high / 10 ^ 8) (len - 24) raised
+pub parts_put : (high low raised len : ℕ) (first middle whole : List ℕ) → 10 ^ 8 ≤ high → high < 2 ^ 64 → low < 10 ^ 16 → 25 ≤ len →
+    IsRaised (high / 10 ^ 8) (len - 24) raised
     → take (len - 24) first ≡ take (len - 24) (low_digits 8 raised) → take (len - 24 + 8) middle ≡ take (len - 24) first ++ low_digits 8 (high % 10 ^ 8)
     → take (len - 16 + 16) whole ≡ take (len - 16) middle ++ low_digits 16 low → take len whole ≡ decimal (high * 10 ^ 16 + low)
 parts_put high low raised len first middle whole some few short long is put_first put_middle put_last =
     let e : len ≡ len - 16 + 16 = omega (arith, long) in
     let e' : len - 16 ≡ len - 24 + 8 = omega (arith, long) in
     let front : take (len - 16) middle ≡ decimal high =
-    ap (λ k. take k middle) e' ∙ put_middle ∙ ap (λ xs. xs ++ low_digits 8 (high % 10 ^ 8)) (put_first ∙ is.digits) ∙ sym (eight_parts high some (omega (arith, few))) in
-    ap (λ k. take k whole) e ∙ put_last ∙ ap (λ xs. xs ++ low_digits 16 low) front ∙ sym (split 16 high low (omega (arith, some)) short (omega (arith, few, short)))
+    ap (λ k. take k middle) e' ∙ put_middle ∙ ap (λ xs. xs ++ low_digits 8 (high % 10 ^ 8)) (put_first ∙ is.digits)
+    ∙ sym (eight_parts high some (omega (arith, few))) in
+    ap (λ k. take k whole) e ∙ put_last ∙ ap (λ xs. xs ++ low_digits 16 low) front ∙ sym (split 16 high low (omega (arith, some)) short
+    (omega (arith, few, short)))
 
 -- a number is as long as its raised front asks for
 pub long_enough : (top raise len : ℕ) → 10000000 ≤ top * raise → (1 ≤ raise → 25 ≤ len) → (16 ≤ len) × (24 ≤ len)

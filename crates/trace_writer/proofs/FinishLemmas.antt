@@ -1,5 +1,7 @@
 -- When a period was done, while rows go by.
-use Rattle.std.proofs.Common.{ℕ, zero, suc, ◌+◌, ◌-◌, ◌*◌, ◌/◌, ◌^◌, ◌<◌, ◌≤◌, ◌≡◌, ◌≢◌, inl, inr, min, max, ltb, Bool, true, false, ◌&&◌, List, [], ◌∷◌, ◌++◌, length, le_trans, get_or, set, map, cond, sym, refl, subst, ap, ◌∙◌, arith, get_or-set_same, get_or-set_other, take, drop, append-nil}
+use Rattle.std.proofs.Common.{ℕ, zero, suc, ◌+◌, ◌-◌, ◌*◌, ◌/◌, ◌^◌, ◌<◌, ◌≤◌, ◌≡◌, ◌≢◌, inl, inr, min, max, ltb, Bool, true, false, ◌&&◌, List, []}
+use Rattle.std.proofs.Common.{◌∷◌, ◌++◌, length, le_trans, get_or, set, map, cond, sym, refl, subst, ap, ◌∙◌, arith, get_or-set_same}
+use Rattle.std.proofs.Common.{get_or-set_other, take, drop, append-nil}
 use Rattle.std.proofs.lemmas.Bool.{cases_Bool, cases_lt, cases_order, cond-true, cond-false, lt-ltb, le-ltb, ne_eqb}
 use Rattle.std.proofs.lemmas.List.{length-set, length-map, get_or_default, drop_all, take_all}
 use Rattle.std.proofs.Math.Nat.{mul-le-mul_right, le-div_iff_mul-le}
@@ -86,10 +88,12 @@ finish_after r rows j a b late =
 pub finish_before : (r : Row) (rows : List Row) (j a b : ℕ) → r.end ≤ a → finish_between (rows ++ r ∷ []) j a b ≡ finish_between rows j a b
 finish_before r rows j a b early =
     unserved r rows j a b
-    (ap (λ t. is_of_task j r.leaf && (ltb r.start b && t)) (le-ltb a r.end early) ∙ ap (λ t. is_of_task j r.leaf && t) (and_false (ltb r.start b)) ∙ and_false (is_of_task j r.leaf))
+    (ap (λ t. is_of_task j r.leaf && (ltb r.start b && t)) (le-ltb a r.end early) ∙ ap (λ t. is_of_task j r.leaf && t) (and_false (ltb r.start b))
+    ∙ and_false (is_of_task j r.leaf))
 
 -- a row of the task within the period
-pub finish_within : (r : Row) (rows : List Row) (j a b : ℕ) → is_of_task j r.leaf ≡ true → r.start < b → a < r.end → finish_between (rows ++ r ∷ []) j a b ≡ max (finish_between rows j a b) (min r.end b)
+pub finish_within : (r : Row) (rows : List Row) (j a b : ℕ) → is_of_task j r.leaf ≡ true → r.start < b → a < r.end → finish_between (rows ++ r ∷ []) j a
+    b ≡ max (finish_between rows j a b) (min r.end b)
 finish_within r rows j a b own early late =
     let is : serves j a b r ≡ true =
     ap (λ t. t && (ltb r.start b && ltb a r.end)) own ∙ ap (λ t. t && ltb a r.end) (lt-ltb r.start b early) ∙ lt-ltb a r.end late in
@@ -127,7 +131,8 @@ pub past_before : (scale : ℕ) (t : Task) (at tick : ℕ) → period_start scal
 past_before scale t at tick begun k below = le_trans (begins_later scale t (k + 1) at (omega (arith, below))) begun
 
 -- so do those before a number that isn't more
-pub past_few : (scale : ℕ) (t : Task) (few at tick : ℕ) → few ≤ at → (1 ≤ at → period_start scale t at ≤ tick) → (k : ℕ) → k < few → period_start scale t (k + 1) ≤ tick
+pub past_few : (scale : ℕ) (t : Task) (few at tick : ℕ) → few ≤ at → (1 ≤ at → period_start scale t at ≤ tick) → (k : ℕ) → k < few →
+    period_start scale t (k + 1) ≤ tick
 past_few scale t few at tick less begun k below = past_before scale t at tick (begun (omega (arith, below, less))) k (omega (arith, below, less))
 
 -- one period more is told to be done when it begins
@@ -163,8 +168,10 @@ noted_first scale t j rows r k ends past done = record {
   left = λ i within from. done i within;
 }
 
-pub noted_next : (scale : ℕ) (t : Task) (j : ℕ) (rows : List Row) (r : Row) (k v : ℕ) (ends : List ℕ) → is_of_task j r.leaf ≡ true → k < length ends → period_start scale t k < r.end
-    → (r.start < period_start scale t (k + 1) → v ≡ max (get_or ends k 0) (min r.end (period_start scale t (k + 1)))) → (period_start scale t (k + 1) ≤ r.start → v ≡ get_or ends k 0)
+pub noted_next : (scale : ℕ) (t : Task) (j : ℕ) (rows : List Row) (r : Row) (k v : ℕ) (ends : List ℕ) → is_of_task j r.leaf ≡ true → k < length ends →
+    period_start scale t k < r.end
+    → (r.start < period_start scale t (k + 1) → v ≡ max (get_or ends k 0) (min r.end (period_start scale t (k + 1)))) →
+    (period_start scale t (k + 1) ≤ r.start → v ≡ get_or ends k 0)
     → IsNoted scale t j rows r k ends → IsNoted scale t j rows r (k + 1) (set ends k v)
 noted_next scale t j rows r k v ends own within begun early late h = record {
   noted = λ i inside below. elim (cases_order i k) [
@@ -173,7 +180,8 @@ noted_next scale t j rows r k v ends own within begun early late h = record {
         let before : get_or ends k 0 ≡ finish_between rows j (period_start scale t k) (period_start scale t (k + 1)) = h.left k within (omega arith) in
         let now : v ≡ finish_between (rows ++ r ∷ []) j (period_start scale t k) (period_start scale t (k + 1)) =
         elim (cases_lt r.start (period_start scale t (k + 1))) [
-          | inl starts ↦ (let e = early starts in let f = finish_within r rows j (period_start scale t k) (period_start scale t (k + 1)) own starts begun in omega (arith, e, f, before))
+          | inl starts ↦ (let e = early starts in let f = finish_within r rows j (period_start scale t k) (period_start scale t (k + 1)) own starts begun in
+              omega (arith, e, f, before))
           | inr after ↦ late after ∙ before ∙ sym (finish_after r rows j (period_start scale t k) (period_start scale t (k + 1)) after)
         ] in
         here ∙ now ∙ ap (λ n. finish_between (rows ++ r ∷ []) j (period_start scale t n) (period_start scale t (n + 1))) (sym same))
@@ -182,19 +190,23 @@ noted_next scale t j rows r k v ends own within begun early late h = record {
       | inr more ↦ absurd (omega (arith, more, below))
     ]
   ];
-  left = λ i inside from. get_or-set_other ends k i v 0 (λ e. omega (arith, e, from)) ∙ h.left i (omega (arith, inside, length-set ends k v)) (omega (arith, from));
+  left = λ i inside from. get_or-set_other ends k i v 0 (λ e. omega (arith, e, from)) ∙ h.left i (omega (arith, inside, length-set ends k v))
+      (omega (arith, from));
 }
 
 -- the other periods begin when the row has ended
-pub noted_stop : (scale : ℕ) (t : Task) (j : ℕ) (rows : List Row) (r : Row) (k : ℕ) (ends : List ℕ) → r.end ≤ period_start scale t k → IsNoted scale t j rows r k ends → IsDoneBy scale t j (rows ++ r ∷ []) ends
+pub noted_stop : (scale : ℕ) (t : Task) (j : ℕ) (rows : List Row) (r : Row) (k : ℕ) (ends : List ℕ) → r.end ≤ period_start scale t k →
+    IsNoted scale t j rows r k ends → IsDoneBy scale t j (rows ++ r ∷ []) ends
 noted_stop scale t j rows r k ends stopped h = λ i within.
     elim (cases_lt i k) [
       | inl below ↦ h.noted i within below
-      | inr from ↦ h.left i within from ∙ sym (finish_before r rows j (period_start scale t i) (period_start scale t (i + 1)) (let later = begins_later scale t k i from in omega (arith, later, stopped)))
+      | inr from ↦ h.left i within from ∙ sym (finish_before r rows j (period_start scale t i) (period_start scale t (i + 1)) (let later = begins_later
+          scale t k i from in omega (arith, later, stopped)))
     ]
 
 -- there are no others
-pub noted_all : (scale : ℕ) (t : Task) (j : ℕ) (rows : List Row) (r : Row) (k : ℕ) (ends : List ℕ) → length ends ≤ k → IsNoted scale t j rows r k ends → IsDoneBy scale t j (rows ++ r ∷ []) ends
+pub noted_all : (scale : ℕ) (t : Task) (j : ℕ) (rows : List Row) (r : Row) (k : ℕ) (ends : List ℕ) → length ends ≤ k → IsNoted scale t j rows r k ends →
+    IsDoneBy scale t j (rows ++ r ∷ []) ends
 noted_all scale t j rows r k ends all h = λ i within. h.noted i within (omega (arith, within, all))
 
 -- ---- room
@@ -202,7 +214,8 @@ noted_all scale t j rows r k ends all h = λ i within. h.noted i within (omega (
 pub room_long : (s : SetContents) (f : List (List ℕ)) → HaveRoom s f → length f ≡ length s.tasks
 room_long s f room = sym (length-map f length) ∙ ap length room ∙ length-map s.tasks (ended_count s)
 
-lengths_at : (g : Task → ℕ) (f : List (List ℕ)) (tasks : List Task) (j : ℕ) → map length f ≡ map g tasks → j < length tasks → length (ends_of f j) ≡ g (task_at tasks j)
+lengths_at : (g : Task → ℕ) (f : List (List ℕ)) (tasks : List Task) (j : ℕ) → map length f ≡ map g tasks → j < length tasks → length (ends_of f j) ≡ g
+    (task_at tasks j)
 lengths_at g [] [] j same within = absurd (omega (arith, within))
 lengths_at g [] (t ∷ tasks) j same within = absurd (let e : [] ≡ g t ∷ map g tasks = same in cc)
 lengths_at g (x ∷ f) [] j same within = absurd (omega (arith, within))
@@ -233,7 +246,8 @@ pub ends_there : (f : List (List ℕ)) (j i : ℕ) (v : List ℕ) → i ≢ j �
 ends_there f j i v other = get_or-set_other f j i v [] other
 
 -- a row of task j was noted there
-pub AreDoneBy-next : (scale : ℕ) (tasks : List Task) (rows : List Row) (r : Row) (f : List (List ℕ)) (j : ℕ) (v : List ℕ) → ((i : ℕ) → i ≢ j → is_of_task i r.leaf ≡ false) → j < length f
+pub AreDoneBy-next : (scale : ℕ) (tasks : List Task) (rows : List Row) (r : Row) (f : List (List ℕ)) (j : ℕ) (v : List ℕ) →
+    ((i : ℕ) → i ≢ j → is_of_task i r.leaf ≡ false) → j < length f
     → AreDoneBy scale tasks rows f → IsDoneBy scale (task_at tasks j) j (rows ++ r ∷ []) v → AreDoneBy scale tasks (rows ++ r ∷ []) (set f j v)
 AreDoneBy-next scale tasks rows r f j v none within before now = λ i inside.
     elim (cases_order i j) [
@@ -245,13 +259,15 @@ AreDoneBy-next scale tasks rows r f j v none within before now = λ i inside.
             | inr more ↦ omega (arith, e, more)
           ] in
           subst (IsDoneBy scale (task_at tasks i) i (rows ++ r ∷ [])) (sym (ends_there f j i v other))
-          (λ k there. before i inside k there ∙ sym (finish_other r rows i (period_start scale (task_at tasks i) k) (period_start scale (task_at tasks i) (k + 1)) (none i other))))
+          (λ k there. before i inside k there ∙ sym (finish_other r rows i (period_start scale (task_at tasks i) k) (period_start scale (task_at tasks i)
+          (k + 1)) (none i other))))
     ]
 
 -- a row of no task was noted nowhere
 pub AreDoneBy-none : (scale : ℕ) (tasks : List Task) (rows : List Row) (r : Row) (f : List (List ℕ)) → ((i : ℕ) → is_of_task i r.leaf ≡ false)
     → AreDoneBy scale tasks rows f → AreDoneBy scale tasks (rows ++ r ∷ []) f
-AreDoneBy-none scale tasks rows r f none before = λ i inside k there. before i inside k there ∙ sym (finish_other r rows i (period_start scale (task_at tasks i) k) (period_start scale (task_at tasks i) (k + 1)) (none i))
+AreDoneBy-none scale tasks rows r f none before = λ i inside k there. before i inside k there
+    ∙ sym (finish_other r rows i (period_start scale (task_at tasks i) k) (period_start scale (task_at tasks i) (k + 1)) (none i))
 
 -- of a set within the limits each task is
 pub lawful_at : (tasks : List Task) (j : ℕ) → j < length tasks → AllByRecursion IsLawfulTask tasks → IsLawfulTask (task_at tasks j)
@@ -281,14 +297,16 @@ item_fits s f j t d lawful room within at =
     subst (λ (u : Task). u.offset + length (get_or f j d) * u.period < 2 ^ 33) place
     (subst (λ (xs : List ℕ). (task_at s.tasks j).offset + length xs * (task_at s.tasks j).period < 2 ^ 33) same fits)
 
-pub room_put : (s : SetContents) (f : List (List ℕ)) (j : ℕ) (v d : List ℕ) → HaveRoom s f → j < length s.tasks → length v ≡ length (get_or f j d) → HaveRoom s (set f j v)
+pub room_put : (s : SetContents) (f : List (List ℕ)) (j : ℕ) (v d : List ℕ) → HaveRoom s f → j < length s.tasks → length v ≡ length (get_or f j d) →
+    HaveRoom s (set f j v)
 room_put s f j v d room within same =
     let there : j < length f = omega (arith, within, room_long s f room) in
     room_set s f j v (same ∙ ap length (get_or_default f j d [] there)) room
 
 -- one task more has its periods told to be done when they begin
 pub begun_next : (scale : ℕ) (s : SetContents) (f : List (List ℕ)) (j : ℕ) (v : List ℕ) (t : Task) → HaveRoom s f → j < length s.tasks → t ≡ get_or s.tasks j t
-    → ((i : ℕ) → i < j → IsDoneBy scale (task_at s.tasks i) i [] (ends_of f i)) → IsDoneBy scale t j [] v → (i : ℕ) → i < j + 1 → IsDoneBy scale (task_at s.tasks i) i [] (ends_of (set f j v) i)
+    → ((i : ℕ) → i < j → IsDoneBy scale (task_at s.tasks i) i [] (ends_of f i)) → IsDoneBy scale t j [] v → (i : ℕ) → i < j + 1 →
+    IsDoneBy scale (task_at s.tasks i) i [] (ends_of (set f j v) i)
 begun_next scale s f j v t room within at before now i below =
     let place : task_at s.tasks j ≡ t = get_or_default s.tasks j no_task t within ∙ sym at in
     let there : j < length f = omega (arith, within, room_long s f room) in
@@ -302,7 +320,8 @@ begun_next scale s f j v t room within at before now i below =
     ]
 
 -- a row of a task was noted for it
-pub note_done : (scale : ℕ) (s : SetContents) (rows : List Row) (r : Row) (id : TaskId) (f : List (List ℕ)) (v : List ℕ) (t : Task) (d : List ℕ) → HaveRoom s f → id.0 < length s.tasks
+pub note_done : (scale : ℕ) (s : SetContents) (rows : List Row) (r : Row) (id : TaskId) (f : List (List ℕ)) (v : List ℕ) (t : Task) (d : List ℕ) →
+    HaveRoom s f → id.0 < length s.tasks
     → t ≡ get_or s.tasks id.0 t → r.leaf ≡ leaves.Task id → (IsDoneBy scale t id.0 rows (get_or f id.0 d) → IsDoneBy scale t id.0 (rows ++ r ∷ []) v)
     → AreDoneBy scale s.tasks rows f → AreDoneBy scale s.tasks (rows ++ r ∷ []) (set f id.0 v)
 note_done scale s rows r id f v t d room within at is noted before =
@@ -311,7 +330,8 @@ note_done scale s rows r id f v t d room within at is noted before =
     let there : j < length f = omega (arith, within, room_long s f room) in
     let same : ends_of f j ≡ get_or f j d = get_or_default f j [] d there in
     let none : (i : ℕ) → i ≢ j → is_of_task i r.leaf ≡ false = λ i other. ap (is_of_task i) is ∙ ne_eqb j i (λ e. other (sym e)) in
-    let own : IsDoneBy scale t j rows (get_or f j d) = subst (IsDoneBy scale t j rows) same (subst (λ (u : Task). IsDoneBy scale u j rows (ends_of f j)) place (before j within)) in
+    let own : IsDoneBy scale t j rows (get_or f j d) = subst (IsDoneBy scale t j rows) same (subst (λ (u : Task). IsDoneBy scale u j rows (ends_of f j))
+    place (before j within)) in
     AreDoneBy-next scale s.tasks rows r f j v none there before (subst (λ (u : Task). IsDoneBy scale u j (rows ++ r ∷ []) v) (sym place) (noted own))
 
 of_none : (leaf : Leaf) → ((id : TaskId) → leaf ≢ leaves.Task id) → (i : ℕ) → is_of_task i leaf ≡ false

@@ -1,5 +1,6 @@
 -- A number whose digits are kept in two parts, and put as blocks.
-use Rattle.std.proofs.Common.{ℕ, zero, suc, ◌+◌, ◌-◌, ◌*◌, ◌/◌, ◌%◌, ◌^◌, ◌<◌, ◌≤◌, ◌≡◌, List, ◌++◌, length, take, drop, length-append, refl, sym, ap, ◌∙◌, arith, append_assoc, take-take}
+use Rattle.std.proofs.Common.{ℕ, zero, suc, ◌+◌, ◌-◌, ◌*◌, ◌/◌, ◌%◌, ◌^◌, ◌<◌, ◌≤◌, ◌≡◌, List, ◌++◌, length, take, drop, length-append, refl, sym, ap}
+use Rattle.std.proofs.Common.{◌∙◌, arith, append_assoc, take-take}
 use Rattle.std.specs.Fmt.{decimal}
 use Rattle.std.proofs.Math.Seq.{take-append-add}
 use Rattle.std.proofs.lemmas.List.{length-drop, length-take-le, take_all, take-append-drop, take-append-le, take_at}
@@ -7,10 +8,12 @@ use Rattle.trace_writer.specs.Digits.{front_digits, low_digits}
 use Rattle.trace_writer.proofs.DigitLemmas.{eight_length, eight_parts, split}
 
 -- a block was put at a place, of which the first bytes count
-pub block_put : (old block rest : List ℕ) (at len : ℕ) → at ≤ length old → len ≤ length block → take (at + len) (take at old ++ (block ++ rest)) ≡ take at old ++ take len block
+pub block_put : (old block rest : List ℕ) (at len : ℕ) → at ≤ length old → len ≤ length block → take (at + len) (take at old ++ (block ++ rest)) ≡ take at
+    old ++ take len block
 block_put old block rest at len within fits =
     let long : length (take at old) ≡ at = length-take-le at old within in
-    ap (λ n. take (n + len) (take at old ++ (block ++ rest))) (sym long) ∙ take-append-add (take at old) (block ++ rest) len ∙ ap (λ ds. take at old ++ ds) (take-append-le len block rest fits)
+    ap (λ n. take (n + len) (take at old ++ (block ++ rest))) (sym long) ∙ take-append-add (take at old) (block ++ rest) len ∙ ap (λ ds. take at old ++ ds)
+    (take-append-le len block rest fits)
 
 -- a text was put by its first bytes and its last ones
 pub ends_put : (old text rest later : List ℕ) (at some : ℕ) → at ≤ length old → some ≤ length text → length text ≤ 2 * some
@@ -57,11 +60,14 @@ front_and_last q low len text after some fits few is put =
     put ∙ ap (λ xs. xs ++ low_digits 8 low) (is ∙ front_some q some) ∙ sym (split 8 q low (omega (arith, some)) (omega (arith, few)) (omega (arith, fits, few)))
 
 -- a front of more than eight digits has so many
-pub front_length : (q len : ℕ) (text : List ℕ) → 10 ^ 8 ≤ q → q < 10 ^ 64 → len ≤ length text → take len text ≡ front_digits q → len ≡ length (decimal (q / 10 ^ 8)) + 8
-front_length q len text long fits within is = sym (length-take-le len text within) ∙ ap length (is ∙ front_some q (omega (arith, long))) ∙ eight_length q long fits
+pub front_length : (q len : ℕ) (text : List ℕ) → 10 ^ 8 ≤ q → q < 10 ^ 64 → len ≤ length text → take len text ≡ front_digits q →
+    len ≡ length (decimal (q / 10 ^ 8)) + 8
+front_length q len text long fits within is = sym (length-take-le len text within) ∙ ap length (is ∙ front_some q (omega (arith, long))) ∙ eight_length q
+    long fits
 
 -- its digits before the last eight
-pub front_high : (q len : ℕ) (text : List ℕ) → 10 ^ 8 ≤ q → q < 10 ^ 64 → len ≤ length text → take len text ≡ front_digits q → take (len - 8) text ≡ decimal (q / 10 ^ 8)
+pub front_high : (q len : ℕ) (text : List ℕ) → 10 ^ 8 ≤ q → q < 10 ^ 64 → len ≤ length text → take len text ≡ front_digits q → take (len - 8) text ≡ decimal
+    (q / 10 ^ 8)
 front_high q len text long fits within is =
     let all = front_length q len text long fits within is in
     let parts : take len text ≡ decimal (q / 10 ^ 8) ++ low_digits 8 (q % 10 ^ 8) = is ∙ front_some q (omega (arith, long)) ∙ eight_parts q long fits in

@@ -1,5 +1,6 @@
 -- The lines of the rows, processor by processor.
-use Rattle.std.proofs.Common.{ℕ, zero, suc, ◌+◌, ◌<◌, ◌≤◌, ◌≡◌, ◌≢◌, inl, inr, List, [], ◌∷◌, ◌++◌, length, Option, Some, None, Result, Ok, Err, sym, refl, ap, ◌∙◌, subst, arith, append_assoc, append-nil, length-append}
+use Rattle.std.proofs.Common.{ℕ, zero, suc, ◌+◌, ◌<◌, ◌≤◌, ◌≡◌, ◌≢◌, inl, inr, List, [], ◌∷◌, ◌++◌, length, Option, Some, None, Result, Ok, Err, sym}
+use Rattle.std.proofs.Common.{refl, ap, ◌∙◌, subst, arith, append_assoc, append-nil, length-append}
 use Rattle.std.proofs.lemmas.Bool.{cases_lt}
 use Rattle.std.specs.Prelude.{IsErr, IfNone}
 use Rattle.std.specs.List.{AllByRecursion, flat_map}
@@ -49,7 +50,8 @@ nothing [] e = refl
 nothing (r ∷ rows) e = absurd (omega (arith, e))
 
 -- the lines of a page are no more than its rows
-pub page_few : (tasks : List Task) (rows left : List Row) (lines most : ℕ) (page : List ℕ) → IsPage tasks rows left lines page → length rows ≤ most → lines ≤ most
+pub page_few : (tasks : List Task) (rows left : List Row) (lines most : ℕ) (page : List ℕ) → IsPage tasks rows left lines page → length rows ≤ most →
+    lines ≤ most
 page_few tasks rows left lines most page is few = (let each = page_counts tasks rows left lines page is in omega (arith, each, few))
 
 -- one row fewer is left
@@ -78,18 +80,21 @@ pub written_none : (tasks : List Task) (a : Option (List ℕ)) (rows left : List
 written_none tasks a rows left same = record { parts = ([], sym same, took_none a, refl) }
 
 -- each row is written or left
-pub written_counts : (tasks : List Task) (a b : Option (List ℕ)) (rows left : List Row) (count : ℕ) → Written tasks a b rows left count → count + length left ≡ length rows
+pub written_counts : (tasks : List Task) (a b : Option (List ℕ)) (rows left : List Row) (count : ℕ) → Written tasks a b rows left count →
+    count + length left ≡ length rows
 written_counts tasks a b rows left count h =
     let (written, all, took, counted) = h.parts in
     let e : length rows ≡ length written + length left = ap length all ∙ length-append written left in
     omega (arith, e, counted)
 
 -- those that are left are no more than all
-pub written_few : (tasks : List Task) (a b : Option (List ℕ)) (rows left : List Row) (count most : ℕ) → Written tasks a b rows left count → length rows ≤ most → length left ≤ most
+pub written_few : (tasks : List Task) (a b : Option (List ℕ)) (rows left : List Row) (count most : ℕ) → Written tasks a b rows left count →
+    length rows ≤ most → length left ≤ most
 written_few tasks a b rows left count most h few = (let each = written_counts tasks a b rows left count h in omega (arith, each, few))
 
 -- the lines of a page more are no more than all rows
-pub written_fits : (tasks : List Task) (a b : Option (List ℕ)) (rows left later : List Row) (count lines most : ℕ) (page : List ℕ) → IsPage tasks left later lines page
+pub written_fits : (tasks : List Task) (a b : Option (List ℕ)) (rows left later : List Row) (count lines most : ℕ) (page : List ℕ) → IsPage tasks left later
+    lines page
     → Written tasks a b rows left count → length rows ≤ most → count + lines ≤ most
 written_fits tasks a b rows left later count lines most page is h few =
     let each = written_counts tasks a b rows left count h in
@@ -97,7 +102,8 @@ written_fits tasks a b rows left later count lines most page is h few =
     omega (arith, each, more, few)
 
 -- a page that has a line leaves fewer rows
-pub page_smaller : (tasks : List Task) (rows left : List Row) (lines : ℕ) (page : List ℕ) → IsPage tasks rows left lines page → (lines ≡ 0 → ⊥) → length left < length rows
+pub page_smaller : (tasks : List Task) (rows left : List Row) (lines : ℕ) (page : List ℕ) → IsPage tasks rows left lines page → (lines ≡ 0 → ⊥) →
+    length left < length rows
 page_smaller tasks rows left lines page is some =
     let more = page_counts tasks rows left lines page is in
     let one : 0 < lines = elim (cases_lt 0 lines) [
@@ -107,7 +113,8 @@ page_smaller tasks rows left lines page is some =
     omega (arith, more, one)
 
 -- a page more
-pub written_more : (tasks : List Task) (a b c : Option (List ℕ)) (rows left later : List Row) (count lines : ℕ) (page : List ℕ) → IsPage tasks left later lines page
+pub written_more : (tasks : List Task) (a b c : Option (List ℕ)) (rows left later : List Row) (count lines : ℕ) (page : List ℕ) → IsPage tasks left later
+    lines page
     → Written tasks a b rows left count → Appends b c page → Written tasks a c rows later (count + lines)
 written_more tasks a b c rows left later count lines page is so_far now =
     let (written, all, took, counted) = so_far.parts in
@@ -124,7 +131,8 @@ written_more tasks a b c rows left later count lines page is so_far now =
     }
 
 -- the write of a page failed
-pub written_cut : {T U E F : Type 0} (tasks : List Task) (a b c : Option (List ℕ)) (rows left later : List Row) (count lines : ℕ) (page : List ℕ) (e : F) (result : Result T E) → IsPage tasks left later lines page
+pub written_cut : {T U E F : Type 0} (tasks : List Task) (a b c : Option (List ℕ)) (rows left later : List Row) (count lines : ℕ) (page : List ℕ) (e : F)
+    (result : Result T E) → IsPage tasks left later lines page
     → Written tasks a b rows left count → Wrote {T = U} b c page (Err e) → IsErr result → Wrote a c (flat_map (row_line tasks) rows) result
 written_cut tasks a b c rows left later count lines page e result is so_far wrote failed =
     let (written, all, took, counted) = so_far.parts in
@@ -132,11 +140,13 @@ written_cut tasks a b c rows left later count lines page e result is so_far wrot
     let rest : flat_map (row_line tasks) (shown ++ later) ≡ page ++ flat_map (row_line tasks) later =
     flat_map-append (row_line tasks) shown later ∙ ap (λ t. t ++ flat_map (row_line tasks) later) (sym shown_text) in
     let text : flat_map (row_line tasks) rows ≡ flat_map (row_line tasks) written ++ (page ++ flat_map (row_line tasks) later) =
-    ap (flat_map (row_line tasks)) (all ∙ ap (λ rs. written ++ rs) whole) ∙ flat_map-append (row_line tasks) written (shown ++ later) ∙ ap (λ t. flat_map (row_line tasks) written ++ t) rest in
+    ap (flat_map (row_line tasks)) (all ∙ ap (λ rs. written ++ rs) whole) ∙ flat_map-append (row_line tasks) written (shown ++ later)
+    ∙ ap (λ t. flat_map (row_line tasks) written ++ t) rest in
     wrote_part a c _ result failed (rw text (part_then a b c _ _ took (part_cut b c page (flat_map (row_line tasks) later) wrote.err)))
 
 -- none is left
-pub written_all : {T E : Type 0} (tasks : List Task) (a b : Option (List ℕ)) (rows left : List Row) (count : ℕ) (v : T) → left ≡ [] → Written tasks a b rows left count
+pub written_all : {T E : Type 0} (tasks : List Task) (a b : Option (List ℕ)) (rows left : List Row) (count : ℕ) (v : T) → left ≡ [] → Written tasks a b rows
+    left count
     → Wrote {E = E} a b (flat_map (row_line tasks) rows) (Ok v) × (count ≡ length rows)
 written_all tasks a b rows left count v none so_far =
     let (written, all, took, counted) = so_far.parts in

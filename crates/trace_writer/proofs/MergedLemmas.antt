@@ -10,7 +10,8 @@ pub all_text : (f : Row → List ℕ) (lanes : List (List Row)) → flat_map f (
 all_text f [] = refl
 all_text f (lane ∷ lanes) = flat_map-append f lane (all_rows lanes) ∙ ap (λ text. flat_map f lane ++ text) (all_text f lanes)
 
-more_rows : (lanes : List (List Row)) (p : ℕ) → p < length lanes → length (all_rows (take (suc p) lanes)) ≡ length (all_rows (take p lanes)) + length (lane_of lanes p)
+more_rows : (lanes : List (List Row)) (p : ℕ) → p < length lanes → length (all_rows (take (suc p) lanes)) ≡ length (all_rows (take p lanes)) + length
+    (lane_of lanes p)
 more_rows [] p within = absurd (omega (arith, within))
 more_rows (lane ∷ lanes) zero within = let one = length-append lane [] in omega (arith, one)
 more_rows (lane ∷ lanes) (suc p) within =
@@ -20,7 +21,8 @@ more_rows (lane ∷ lanes) (suc p) within =
     omega (arith, more, less, rest)
 
 -- one lane more
-pub all_more : (lanes : List (List Row)) (p : ℕ) → p < length lanes → length (all_rows (take (p + 1) lanes)) ≡ length (all_rows (take p lanes)) + length (lane_of lanes p)
+pub all_more : (lanes : List (List Row)) (p : ℕ) → p < length lanes → length (all_rows (take (p + 1) lanes)) ≡ length (all_rows (take p lanes)) + length
+    (lane_of lanes p)
 all_more lanes p within = rw add-one (more_rows lanes p within)
 
 -- the first lanes have no more rows than all

@@ -25,11 +25,13 @@ numbered_from f g a [] same = refl
 numbered_from f g a (e ∷ ends) same =
     let at : a + 0 ≡ a = omega arith in
     let here : f (a, e) ≡ g a = subst (λ (n : ℕ). f (n, e) ≡ g n) at (same 0 (omega arith)) in
-    let rest = numbered_from f g (a + 1) ends (λ k within. (let next : a + suc k ≡ a + 1 + k = omega arith in subst (λ (n : ℕ). f (n, get_or ends k 0) ≡ g n) next (same (suc k) (omega (arith, within))))) in
+    let rest = numbered_from f g (a + 1) ends (λ k within. (let next : a + suc k ≡ a + 1 + k = omega arith in subst (λ (n : ℕ). f (n, get_or ends k 0) ≡ g
+    n) next (same (suc k) (omega (arith, within))))) in
     ap (λ text. text ++ flat_map f (enumerate_from (a + 1) ends)) here ∙ ap (λ text. g a ++ text) rest
 
 -- ticks that tell when periods were done make these lines
-pub mets_by : (scale : ℕ) (s : SetContents) (rows : List Row) (j : ℕ) (t : Task) (ends : List ℕ) → task_at s.tasks j ≡ t → length ends ≡ ended_count s t → IsDoneBy scale t j rows ends
+pub mets_by : (scale : ℕ) (s : SetContents) (rows : List Row) (j : ℕ) (t : Task) (ends : List ℕ) → task_at s.tasks j ≡ t → length ends ≡ ended_count s t →
+    IsDoneBy scale t j rows ends
     → flat_map (line_of_met t.name) (enumerate_from 0 ends) ≡ text_of (mets_of_task scale s rows (j, t))
 mets_by scale s rows j t ends place count done =
     let told : (k : ℕ) → k < length ends → line_of_met t.name (0 + k, get_or ends k 0) ≡ met_of scale s rows j t.name (0 + k) =
@@ -49,7 +51,8 @@ numbered_end ends k within =
     sym (get_or-enumerate_from 0 ends k (k, e) within ∙ ap (λ n. (n, get_or ends k e)) zero_more ∙ ap (λ u. (k, u)) (sym (get_or_default ends k 0 e within)))
 
 -- the lines of task j, by its place
-pub mets_told : (scale : ℕ) (s : SetContents) (rows : List Row) (f : List (List ℕ)) (j : ℕ) (t : Task) → HaveRoom s f → j < length s.tasks → t ≡ get_or s.tasks j t → AreDoneBy scale s.tasks rows f
+pub mets_told : (scale : ℕ) (s : SetContents) (rows : List Row) (f : List (List ℕ)) (j : ℕ) (t : Task) → HaveRoom s f → j < length s.tasks →
+    t ≡ get_or s.tasks j t → AreDoneBy scale s.tasks rows f
     → flat_map (line_of_met t.name) (enumerate_from 0 (ends_of f j)) ≡ text_of (mets_of_task scale s rows (j, t))
 mets_told scale s rows f j t room within at done =
     let place : task_at s.tasks j ≡ t = get_or_default s.tasks j no_task t within ∙ sym at in

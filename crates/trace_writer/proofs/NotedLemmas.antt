@@ -1,5 +1,6 @@
 -- Rows that went by, processor by processor.
-use Rattle.std.proofs.Common.{ℕ, zero, suc, ◌+◌, ◌<◌, ◌≡◌, ◌≢◌, Option, None, Some, List, [], ◌∷◌, ◌++◌, length, take, refl, sym, ap, ◌∙◌, subst, arith, append_assoc, append-nil, add-one}
+use Rattle.std.proofs.Common.{ℕ, zero, suc, ◌+◌, ◌<◌, ◌≡◌, ◌≢◌, Option, None, Some, List, [], ◌∷◌, ◌++◌, length, take, refl, sym, ap, ◌∙◌, subst}
+use Rattle.std.proofs.Common.{arith, append_assoc, append-nil, add-one}
 use Rattle.std.specs.Prelude.{IfNone}
 use Rattle.sched_base.specs.declared.rows.Row.{Row}
 use Rattle.sched_base.specs.Sets.{SetContents}
@@ -9,11 +10,13 @@ use Rattle.trace_writer.specs.Finishes.{HaveRoom, AreDoneBy}
 
 -- of these rows some went by, and the others are left
 pub record HasNoted (scale : ℕ) (s : SetContents) (rows left : List Row) (old now : List (List ℕ)) : Type 0 where
-  pub parts : (done : List Row) × (rows ≡ done ++ left) × ((before : List Row) → AreDoneBy scale s.tasks before old → AreDoneBy scale s.tasks (before ++ done) now)
+  pub parts : (done : List Row) × (rows ≡ done ++ left) × ((before : List Row) → AreDoneBy scale s.tasks before old → AreDoneBy scale s.tasks
+      (before ++ done) now)
   pub names : NamesAmong (length s.tasks) left
   pub room : HaveRoom s now
 
-pub has_noted_none : (scale : ℕ) (s : SetContents) (rows left : List Row) (f : List (List ℕ)) → left ≡ rows → NamesAmong (length s.tasks) rows → HaveRoom s f → HasNoted scale s rows left f f
+pub has_noted_none : (scale : ℕ) (s : SetContents) (rows left : List Row) (f : List (List ℕ)) → left ≡ rows → NamesAmong (length s.tasks) rows →
+    HaveRoom s f → HasNoted scale s rows left f f
 has_noted_none scale s rows left f same names room = record {
   parts = ([], sym same, λ before done. subst (λ (xs : List Row). AreDoneBy scale s.tasks xs f) (sym (append-nil before)) done);
   names = subst (NamesAmong (length s.tasks)) (sym same) names;
@@ -21,15 +24,18 @@ has_noted_none scale s rows left f same names room = record {
 }
 
 -- one more went by
-pub has_noted_more : (scale : ℕ) (s : SetContents) (rows left later : List Row) (r : Row) (old now next : List (List ℕ)) → left ≡ r ∷ later → HasNoted scale s rows left old now
-    → HaveRoom s next → ((before : List Row) → AreDoneBy scale s.tasks before now → AreDoneBy scale s.tasks (before ++ r ∷ []) next) → HasNoted scale s rows later old next
+pub has_noted_more : (scale : ℕ) (s : SetContents) (rows left later : List Row) (r : Row) (old now next : List (List ℕ)) → left ≡ r ∷ later →
+    HasNoted scale s rows left old now
+    → HaveRoom s next → ((before : List Row) → AreDoneBy scale s.tasks before now → AreDoneBy scale s.tasks (before ++ r ∷ []) next) →
+    HasNoted scale s rows later old next
 has_noted_more scale s rows left later r old now next first h room noted =
     let (done, all, so_far) = h.parts in
     record {
       parts = (
         done ++ r ∷ [],
         all ∙ ap (λ rs. done ++ rs) first ∙ sym (append_assoc done (r ∷ []) later),
-        λ before was. subst (λ (xs : List Row). AreDoneBy scale s.tasks xs next) (append_assoc before done (r ∷ [])) (noted (before ++ done) (so_far before was)),
+        λ before was. subst (λ (xs : List Row). AreDoneBy scale s.tasks xs next) (append_assoc before done (r ∷ [])) (noted (before ++ done)
+            (so_far before was)),
       );
       names = (subst (NamesAmong (length s.tasks)) first h.names).1;
       room = room;

@@ -7,7 +7,8 @@ use Rattle.sched_edges.specs.Lines.{line_of}
 use Rattle.trace_format.specs.Lines.{leaf_name, row_line}
 
 pub row_line_is : (tasks : List Task) (r : Row)
-    → row_line tasks r ≡ codes "row " ++ (decimal r.processor ++ (32 ∷ (decimal r.start ++ (32 ∷ (decimal r.end ++ (32 ∷ (leaf_name tasks r.leaf ++ 10 ∷ [])))))))
+    → row_line tasks r ≡ codes
+    "row " ++ (decimal r.processor ++ (32 ∷ (decimal r.start ++ (32 ∷ (decimal r.end ++ (32 ∷ (leaf_name tasks r.leaf ++ 10 ∷ [])))))))
 unfolding row_line line_of
 row_line_is tasks r = refl
 

@@ -37,7 +37,8 @@ pub names_merged_lanes : (n : ℕ) (lanes : List (List Row)) → AllByRecursion 
 names_merged_lanes n [] names = tt
 names_merged_lanes n (lane ∷ lanes) names = (names_merged n lane names.0, names_merged_lanes n lanes names.1)
 
-few_merged_from : (lanes : List (List Row)) (k : ℕ) → ((p : ℕ) → p < length lanes → length (lane_of lanes p) ≤ k) → length (all_rows (map merged lanes)) ≤ length lanes * k
+few_merged_from : (lanes : List (List Row)) (k : ℕ) → ((p : ℕ) → p < length lanes → length (lane_of lanes p) ≤ k) → length (all_rows (map merged lanes))
+    ≤ length lanes * k
 few_merged_from [] k each = omega arith
 few_merged_from (lane ∷ lanes) k each =
     let fewer = few_merged lane in
@@ -47,7 +48,8 @@ few_merged_from (lane ∷ lanes) k each =
     omega (arith, fewer, here, rest, both)
 
 -- merged rows are no more than the rows of all rounds
-pub few_merged_lanes : (lanes : List (List Row)) (most : ℕ) → IsTable lanes → length lanes * rounds_in lanes ≤ most → length (all_rows (map merged lanes)) ≤ most
+pub few_merged_lanes : (lanes : List (List Row)) (most : ℕ) → IsTable lanes → length lanes * rounds_in lanes ≤ most → length (all_rows (map merged lanes))
+    ≤ most
 few_merged_lanes lanes most table few =
     let all = few_merged_from lanes (rounds_in lanes) (λ p within. (let whole = table.whole p within in omega (arith, whole))) in
     omega (arith, all, few)

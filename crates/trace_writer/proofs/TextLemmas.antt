@@ -24,8 +24,10 @@ text_append : (xs ys : List (List ℕ)) → text_of (xs ++ ys) ≡ text_of xs ++
 text_append xs ys = flat_map-append (λ line. line) xs ys
 
 -- lines made one from each item, and then others
-text_map : {A : Type 0} (f : A → List ℕ) (xs : List A) (lines : List (List ℕ)) (text : List ℕ) → text_of lines ≡ text → text_of (map f xs ++ lines) ≡ flat_map f xs ++ text
-text_map f xs lines text rest = text_append (map f xs) lines ∙ ap (λ t. t ++ text_of lines) (flat_map-map (λ line. line) f xs) ∙ ap (λ t. flat_map f xs ++ t) rest
+text_map : {A : Type 0} (f : A → List ℕ) (xs : List A) (lines : List (List ℕ)) (text : List ℕ) → text_of lines ≡ text →
+    text_of (map f xs ++ lines) ≡ flat_map f xs ++ text
+text_map f xs lines text rest = text_append (map f xs) lines ∙ ap (λ t. t ++ text_of lines) (flat_map-map (λ line. line) f xs)
+    ∙ ap (λ t. flat_map f xs ++ t) rest
 
 regroup : (a b c d x : List ℕ) → a ++ (b ++ (c ++ (d ++ x))) ≡ (a ++ (b ++ (c ++ d))) ++ x
 regroup a b c d x = sym (append_assoc a (b ++ (c ++ d)) x ∙ ap (λ t. a ++ t) (append_assoc b (c ++ d) x ∙ ap (λ t. b ++ t) (append_assoc c d x)))
@@ -44,7 +46,8 @@ trace_parts version s scale rows =
     let d = text_map (task_line version) s.tasks (map (row_line s.tasks) rows ++ (total_lines s rows ++ (mets ++ end ∷ []))) _ c in
     text_append (head_lines version s scale) (map (task_line version) s.tasks ++ (map (row_line s.tasks) rows ++ (total_lines s rows ++ (mets ++ end ∷ []))))
     ∙ ap (λ t. text_of (head_lines version s scale) ++ t) d
-    ∙ regroup (text_of (head_lines version s scale)) (flat_map (task_line version) s.tasks) (flat_map (row_line s.tasks) rows) (text_of (total_lines s rows)) (text_of mets ++ end)
+    ∙ regroup (text_of (head_lines version s scale)) (flat_map (task_line version) s.tasks) (flat_map (row_line s.tasks) rows)
+    (text_of (total_lines s rows)) (text_of mets ++ end)
 
 -- the texts of parts that are lists of lines
 pub texts_of : {A : Type 0} (f : A → List (List ℕ)) (xs : List A) → text_of (flat_map f xs) ≡ flat_map (λ x. text_of (f x)) xs
@@ -59,5 +62,6 @@ text_of_map f xs = flat_map-map (λ line. line) f xs
 abbrev pub met_of : ℕ → SetContents → List Row → ℕ → List ℕ → ℕ → List ℕ
 met_of scale s rows j name k = met_line name k (finish scale s rows j k)
 
-pub mets_are : (scale : ℕ) (s : SetContents) (rows : List Row) (j : ℕ) (t : Task) → text_of (mets_of_task scale s rows (j, t)) ≡ flat_map (met_of scale s rows j t.name) (range_with_len 0 (ended_count s t))
+pub mets_are : (scale : ℕ) (s : SetContents) (rows : List Row) (j : ℕ) (t : Task) → text_of (mets_of_task scale s rows (j, t)) ≡ flat_map
+    (met_of scale s rows j t.name) (range_with_len 0 (ended_count s t))
 mets_are scale s rows j t = text_of_map (met_of scale s rows j t.name) (range_with_len 0 (ended_count s t))

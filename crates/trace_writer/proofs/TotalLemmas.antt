@@ -22,21 +22,26 @@ pub total_lines_are : (tasks : List Task) (totals : List ℕ) → text_of (lines
 total_lines_are tasks totals = flat_map-map (λ line. line) (total_line totals) (enumerate_from 0 tasks)
 
 told_from : (a : ℕ) (tasks : List Task) (totals : List ℕ) (rows : List Row) → ((i : ℕ) → i < length tasks → get_or totals (a + i) 0 ≡ ticks_in (a + i) rows)
-    → map (total_line totals) (enumerate_from a tasks) ≡ map (λ (p : ℕ × Task). named_line (codes "total") p.1.name (ticks_in p.0 rows)) (enumerate_from a tasks)
+    → map (total_line totals) (enumerate_from a tasks) ≡ map (λ (p : ℕ × Task). named_line (codes "total") p.1.name (ticks_in p.0 rows))
+    (enumerate_from a tasks)
 told_from a [] totals rows same = refl
 told_from a (t ∷ tasks) totals rows same =
     let e : a + 0 ≡ a = omega arith in
     let here : get_or totals a 0 ≡ ticks_in a rows = subst (λ (n : ℕ). get_or totals n 0 ≡ ticks_in n rows) e (same 0 (omega arith)) in
-    let rest = told_from (a + 1) tasks totals rows (λ i within. (let f : a + suc i ≡ a + 1 + i = omega arith in subst (λ (n : ℕ). get_or totals n 0 ≡ ticks_in n rows) f (same (suc i) (omega (arith, within))))) in
+    let rest = told_from (a + 1) tasks totals rows (λ i within. (let f : a + suc i ≡ a + 1 + i = omega arith in
+    subst (λ (n : ℕ). get_or totals n 0 ≡ ticks_in n rows) f (same (suc i) (omega (arith, within))))) in
     ap (λ n. named_line (codes "total") t.name n ∷ map (total_line totals) (enumerate_from (a + 1) tasks)) here
     ∙ ap (λ lines. named_line (codes "total") t.name (ticks_in a rows) ∷ lines) rest
 
 -- the lines of totals that are the ticks of rows
-pub told_are : (s : SetContents) (totals : List ℕ) (rows : List Row) → ((i : ℕ) → i < length s.tasks → get_or totals i 0 ≡ ticks_in i rows) → lines_of_totals s.tasks totals ≡ total_lines s rows
-told_are s totals rows same = told_from 0 s.tasks totals rows (λ i within. (let e : i ≡ 0 + i = omega arith in subst (λ (n : ℕ). get_or totals n 0 ≡ ticks_in n rows) e (same i within)))
+pub told_are : (s : SetContents) (totals : List ℕ) (rows : List Row) → ((i : ℕ) → i < length s.tasks → get_or totals i 0 ≡ ticks_in i rows) →
+    lines_of_totals s.tasks totals ≡ total_lines s rows
+told_are s totals rows same = told_from 0 s.tasks totals rows (λ i within. (let e : i ≡ 0 + i = omega arith in
+    subst (λ (n : ℕ). get_or totals n 0 ≡ ticks_in n rows) e (same i within)))
 
 -- totals of merged rows
-pub merged_told : (s : SetContents) (totals : List ℕ) (lanes : List (List Row)) → totals ≡ totals_of (length s.tasks) lanes → lines_of_totals s.tasks totals ≡ total_lines s (all_rows lanes)
+pub merged_told : (s : SetContents) (totals : List ℕ) (lanes : List (List Row)) → totals ≡ totals_of (length s.tasks) lanes → lines_of_totals s.tasks
+    totals ≡ total_lines s (all_rows lanes)
 merged_told s totals lanes is =
     told_are s totals (all_rows lanes)
     (λ i within. ap (λ ts. get_or ts i 0) is ∙ get_or-map-range_with_len (λ j. ticks_in j (all_rows lanes)) 0 (length s.tasks) i i 0 within (omega arith))
@@ -57,4 +62,5 @@ total_at n lanes i table within =
 -- totals of a table
 pub table_told : (s : SetContents) (totals : List ℕ) (lanes : List (List Row)) → IsTable lanes → totals ≡ totals_of (length s.tasks) lanes
     → lines_of_totals s.tasks totals ≡ total_lines s (merged_lanes lanes)
-table_told s totals lanes table is = told_are s totals (merged_lanes lanes) (λ i within. ap (λ ts. get_or ts i 0) is ∙ total_at (length s.tasks) lanes i table within)
+table_told s totals lanes table is = told_are s totals (merged_lanes lanes) (λ i within. ap (λ ts. get_or ts i 0) is ∙ total_at (length s.tasks) lanes i
+    table within)

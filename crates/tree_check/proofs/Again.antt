@@ -1,5 +1,6 @@
 -- The tree of a text with no fault is written again as the text.
-use Rattle.std.proofs.Common.{◌≡◌, ℕ, zero, suc, ◌+◌, ◌-◌, ◌<◌, List, [], ◌∷◌, Option, Some, None, map, length, get_or, refl, ap, ap₂, arith, inl, inr, sym, ◌∙◌}
+use Rattle.std.proofs.Common.{◌≡◌, ℕ, zero, suc, ◌+◌, ◌-◌, ◌<◌, List, [], ◌∷◌, Option, Some, None, map, length, get_or, refl, ap, ap₂, arith, inl}
+use Rattle.std.proofs.Common.{inr, sym, ◌∙◌}
 use Rattle.std.proofs.lemmas.Bool.{cases_Bool, cond-true, cond-false}
 use Rattle.std.proofs.lemmas.List.{get_or-map, length-map, ext_get_or, get_or-append_right}
 use Rattle.std.proofs.lemmas.List.FromFn.{get_or-map-range_with_len, length-map-range_with_len}
@@ -33,12 +34,15 @@ use Rattle.tree_check.proofs.WrittenTree.{idle_at}
 use Rattle.tree_check.proofs.SeenLevels.{kind_for, each_seen, IsSeenLevel}
 
 -- the name that is found at j is that of task j
-pub name_at : (name : List ℕ) (i : ℕ) (tasks : List declared.Task) (j : ℕ) → position_from (λ (t : declared.Task). bytes_eq t.name name) i tasks ≡ Some j → (k : ℕ) × (j ≡ i + k) × ((task_at tasks k).name ≡ name)
+pub name_at : (name : List ℕ) (i : ℕ) (tasks : List declared.Task) (j : ℕ) → position_from (λ (t : declared.Task). bytes_eq t.name name) i tasks ≡ Some j →
+    (k : ℕ) × (j ≡ i + k) × ((task_at tasks k).name ≡ name)
 name_at name i [] j e = cc
 name_at name i (t ∷ ts) j e = elim (cases_Bool (bytes_eq t.name name)) [
-  | inl on ↦ (let f : Some i ≡ Some j = sym (cond-true (bytes_eq t.name name) (Some i) (position_from (λ (u : declared.Task). bytes_eq u.name name) (i + 1) ts) on) ∙ e in
+  | inl on ↦ (let f : Some i ≡ Some j = sym (cond-true (bytes_eq t.name name) (Some i) (position_from (λ (u : declared.Task). bytes_eq u.name name) (i + 1)
+      ts) on) ∙ e in
       let same : i ≡ j = cc in (0, omega (arith, same), (bytes_eq-Decides t.name name).0 on))
-  | inr off ↦ (let (k, at, is) = name_at name (i + 1) ts j (sym (cond-false (bytes_eq t.name name) (Some i) (position_from (λ (u : declared.Task). bytes_eq u.name name) (i + 1) ts) off) ∙ e) in (suc k, omega (arith, at), is))
+  | inr off ↦ (let (k, at, is) = name_at name (i + 1) ts j (sym (cond-false (bytes_eq t.name name) (Some i) (position_from (λ (u : declared.Task). bytes_eq
+      u.name name) (i + 1) ts) off) ∙ e) in (suc k, omega (arith, at), is))
 ]
 
 module _ (w : Written) (iw : IsWritten w) (nf : HasNoFault w) where
@@ -61,9 +65,11 @@ module _ (w : Written) (iw : IsWritten w) (nf : HasNoFault w) where
   pub member_again : (l : ℕ) → l < length w.levels → (x : Member) → IsMemberAt l x → 0 < member_rate w l x → kind_written p (kind_for w t l x) ≡ x
   member_again zero b (Name name) is some = go (position_from (λ (u : declared.Task). bytes_eq u.name name) 0 w.set.tasks) refl some
     where
-      go : (o : Option ℕ) → position_from (λ (u : declared.Task). bytes_eq u.name name) 0 w.set.tasks ≡ o → 0 < rate_of_named w 0 o → kind_written p (kind.Leaf (leaf_named o (Name name))) ≡ Name name
+      go : (o : Option ℕ) → position_from (λ (u : declared.Task). bytes_eq u.name name) 0 w.set.tasks ≡ o → 0 < rate_of_named w 0 o →
+          kind_written p (kind.Leaf (leaf_named o (Name name))) ≡ Name name
       go None e some = absurd (omega (arith, some))
-      go (Some j) e some = (let (k, at, is) = name_at name 0 w.set.tasks j e in let same : j ≡ k = omega (arith, at) in ap Name (ap (λ i. (task_at w.set.tasks i).name) same ∙ is))
+      go (Some j) e some = (let (k, at, is) = name_at name 0 w.set.tasks j e in let same : j ≡ k = omega (arith, at) in
+          ap Name (ap (λ i. (task_at w.set.tasks i).name) same ∙ is))
   member_again zero b (Number k) is some = refl
   member_again (suc l) b (Name name) is some = absurd (omega (arith, is))
   member_again (suc l) b (Number j) is some =
@@ -72,7 +78,8 @@ module _ (w : Written) (iw : IsWritten w) (nf : HasNoFault w) where
       let m = seen.long l (seen_low l (omega (arith, b))) in
       ap Number (place_is t l j (omega (arith, there, n, m)))
 
-  pub member_good : (l i k : ℕ) → l < length w.levels → i < length (level_at w l) → k < length (pack_at (level_at w l) i).members → 0 < member_rate w l (get_or (pack_at (level_at w l) i).members k (Number 0))
+  pub member_good : (l i k : ℕ) → l < length w.levels → i < length (level_at w l) → k < length (pack_at (level_at w l) i).members →
+      0 < member_rate w l (get_or (pack_at (level_at w l) i).members k (Number 0))
   member_good l i k b li lk =
       let packs = level_at w l in
       let f : Pack → List Member = λ (q : Pack). q.members in
@@ -84,17 +91,20 @@ module _ (w : Written) (iw : IsWritten w) (nf : HasNoFault w) where
       let e = ap (rate_of_named w l) (name_is w iw nf l b place low ∙ ap (named w l) at) in
       omega (arith, g, e)
 
-  pub members_again : (l i : ℕ) → l < length w.levels → i < length (level_at w l) → map (λ x. kind_written p (kind_at t x)) (members t (pack_of t l i)) ≡ (pack_at (level_at w l) i).members
+  pub members_again : (l i : ℕ) → l < length w.levels → i < length (level_at w l) → map (λ x. kind_written p (kind_at t x)) (members t (pack_of t l i))
+      ≡ (pack_at (level_at w l) i).members
   members_again l i b li =
       composed (members t (pack_of t l i))
       ∙ ap (map (kind_written p)) (seen.kinds l i (seen_low l b) li)
-      ∙ back (pack_at (level_at w l) i).members (λ k lk. member_again l b (get_or (pack_at (level_at w l) i).members k (Number 0)) (all_at (IsMemberAt l) (Number 0) (pack_at (level_at w l) i).members k (pack_is w iw nf l b i li).each lk) (member_good l i k b li lk))
+      ∙ back (pack_at (level_at w l) i).members (λ k lk. member_again l b (get_or (pack_at (level_at w l) i).members k (Number 0)) (all_at (IsMemberAt l)
+      (Number 0) (pack_at (level_at w l) i).members k (pack_is w iw nf l b i li).each lk) (member_good l i k b li lk))
     where
       composed : (xs : List ℕ) → map (λ x. kind_written p (kind_at t x)) xs ≡ map (kind_written p) (map (kind_at t) xs)
       composed [] = refl
       composed (x ∷ xs) = ap (λ ys. kind_written p (kind_at t x) ∷ ys) (composed xs)
 
-      back : (ms : List Member) → ((k : ℕ) → k < length ms → kind_written p (kind_for w t l (get_or ms k (Number 0))) ≡ get_or ms k (Number 0)) → map (kind_written p) (map (kind_for w t l) ms) ≡ ms
+      back : (ms : List Member) → ((k : ℕ) → k < length ms → kind_written p (kind_for w t l (get_or ms k (Number 0))) ≡ get_or ms k (Number 0)) →
+          map (kind_written p) (map (kind_for w t l) ms) ≡ ms
       back [] f = refl
       back (x ∷ ms) f = ap₂ (λ y ys. y ∷ ys) (f 0 (omega arith)) (back ms (λ k lk. f (suc k) (omega (arith, lk))))
 
@@ -129,12 +139,14 @@ module _ (w : Written) (iw : IsWritten w) (nf : HasNoFault w) where
       let both = sym e ∙ entry_k w iw nf i lm in
       let the_leaf : leaf t x ≡ Idle k = elim (leaf_k w iw nf i lm) [
         | inl task ↦ absurd (let (j, o, b, f) = task in let same = ap number_in o in omega (arith, same, at, b))
-        | inr idle ↦ (let (j, o, f) = idle in let same = ap number_in o in let z : j ≡ k = omega (arith, same, at) in ap (λ (y : Entry). y.leaf) both ∙ f ∙ ap Idle z)
+        | inr idle ↦ (let (j, o, f) = idle in let same = ap number_in o in let z : j ≡ k = omega (arith, same, at) in ap (λ (y : Entry). y.leaf) both ∙ f
+            ∙ ap Idle z)
       ] in
       let node_is = idle_at w.set t iw.lawful (text_is_tree_of w iw nf) x k (lx, is) the_leaf in
       let z : count + k - count ≡ k = omega arith in
       ap (rate t) node_is ∙ ap (λ (y : Entry). y.rate) both ∙ ap (rate_of_named w 0) (named_k w iw nf i lm) ∙ ap (rate_at w 0) at
-      ∙ get_or-append_right (map (rate_of w.scale) w.set.tasks) w.idles count (count + k) 0 (length-map w.set.tasks (rate_of w.scale)) (omega arith) ∙ ap (λ j. get_or w.idles j 0) z
+      ∙ get_or-append_right (map (rate_of w.scale) w.set.tasks) w.idles count (count + k) 0 (length-map w.set.tasks (rate_of w.scale)) (omega arith)
+      ∙ ap (λ j. get_or w.idles j 0) z
 
   pub idles_again : map (λ k. rate t (idle_node t k)) (range_with_len 0 (idle_count t)) ≡ w.idles
   idles_again =

@@ -1,6 +1,8 @@
 -- Level 0 of a text's tree, member by member: what each leaf may ask.
-use Rattle.std.proofs.Common.{◌≡◌, ℕ, zero, suc, ◌+◌, ◌-◌, ◌<◌, ◌≤◌, List, [], ◌∷◌, ◌++◌, map, max, length, get_or, take, drop, replicate, refl, ap, ap₂, arith, sym, subst, ◌∙◌}
-use Rattle.std.proofs.lemmas.List.{length-map, length-take-le, length-replicate, length-append, get_or-map, get_or-replicate, get_or_append_left, get_or-append_right}
+use Rattle.std.proofs.Common.{◌≡◌, ℕ, zero, suc, ◌+◌, ◌-◌, ◌<◌, ◌≤◌, List, [], ◌∷◌, ◌++◌, map, max, length, get_or, take, drop, replicate, refl, ap}
+use Rattle.std.proofs.Common.{ap₂, arith, sym, subst, ◌∙◌}
+use Rattle.std.proofs.lemmas.List.{length-map, length-take-le, length-replicate, length-append, get_or-map, get_or-replicate, get_or_append_left}
+use Rattle.std.proofs.lemmas.List.{get_or-append_right}
 use Rattle.std.specs.List.{AllByRecursion}
 use Rattle.sched_base.specs.FirstFit.{with_item}
 use Rattle.run_tree.specs.declared.kinds.Kind.TheVariants as kind
@@ -22,7 +24,8 @@ use Rattle.tree_check.proofs.TextLevels.{first_items, rates_of_items, low_0}
 use Rattle.tree_check.proofs.TextLeaves.{place_long}
 
 -- the first k items, and then the rest
-pub told_split : (k : ℕ) (rs hs ss : List ℕ) → length hs ≡ length rs → told_rates rs hs ss ≡ told_rates (drop k rs) (drop k hs) (told_rates (take k rs) (take k hs) ss)
+pub told_split : (k : ℕ) (rs hs ss : List ℕ) → length hs ≡ length rs → told_rates rs hs ss ≡ told_rates (drop k rs) (drop k hs) (told_rates (take k rs)
+    (take k hs) ss)
 told_split zero rs hs ss e = refl
 told_split (suc k) [] hs ss e = refl
 told_split (suc k) (r ∷ rs) [] ss e = absurd (omega (arith, e))
@@ -45,16 +48,22 @@ with_item_length r zero (s ∷ ss) l = omega arith
 with_item_length r (suc b) (s ∷ ss) l = let ih = with_item_length r b ss (omega (arith, l)) in omega (arith, ih)
 
 -- so each home is a pack that is open, or the next one
-pub home_open : (k : ℕ) (rs hs ss : List ℕ) → length hs ≡ length rs → k < length rs → Gapless (length ss) hs → get_or hs k 0 ≤ length (told_rates (take k rs) (take k hs) ss)
+pub home_open : (k : ℕ) (rs hs ss : List ℕ) → length hs ≡ length rs → k < length rs → Gapless (length ss) hs → get_or hs k 0 ≤ length
+    (told_rates (take k rs) (take k hs) ss)
 home_open k [] hs ss e l g = absurd (omega (arith, l))
 home_open k (r ∷ rs) [] ss e l g = absurd (omega (arith, e))
 home_open zero (r ∷ rs) (b ∷ hs) ss e l g = g.0
 home_open (suc k) (r ∷ rs) (b ∷ hs) ss e l g =
-    home_open k rs hs (with_item r b ss) (omega (arith, e)) (omega (arith, l)) (let P : ℕ → Type 0 = λ n. Gapless n hs in subst P (sym (with_item_length r b ss g.0)) g.1)
+    home_open k rs hs (with_item r b ss) (omega (arith, e)) (omega (arith, l)) (let P : ℕ → Type 0 = λ n. Gapless n hs in
+    subst P (sym (with_item_length r b ss g.0)) g.1)
 
 pub gapless_rest : (c b : ℕ) (hs : List ℕ) → Gapless (suc b) hs → Gapless (suc b) (replicate c b ++ hs)
 gapless_rest zero b hs g = g
-gapless_rest (suc c) b hs g = (omega arith, (let P : ℕ → Type 0 = λ n. Gapless n (replicate c b ++ hs) in let e : suc b ≡ max (suc b) (suc b) = omega arith in subst P e (gapless_rest c b hs g)))
+gapless_rest (suc c) b hs g = (
+  omega arith,
+  (let P : ℕ → Type 0 = λ n. Gapless n (replicate c b ++ hs) in let e : suc b ≡ max (suc b) (suc b) =
+      omega arith in subst P e (gapless_rest c b hs g)),
+)
 
 pub gapless_homes : (b : ℕ) (packs : List Pack) → AllHave packs → Gapless b (homes_from b packs)
 gapless_homes b [] each = tt
@@ -106,7 +115,8 @@ module _ (w : Written) (iw : IsWritten w) (nf : HasNoFault w) where
   homes_long = let a = length-homes 0 (level_at w 0) in let b = rates_long in omega (arith, a, b)
 
   pub all_within : Within w.scale (told_rates (item_rates items) homes [])
-  all_within = subst (Within w.scale) (sym (ap (λ xs. told_rates xs homes []) (rates_of_items (leaf_item w) (member_rate w 0) firsts (λ x. refl)) ∙ printed_are w iw nf 0 (low_0 w iw nf))) (printed_within w iw nf 0 (low_0 w iw nf))
+  all_within = subst (Within w.scale) (sym (ap (λ xs. told_rates xs homes []) (rates_of_items (leaf_item w) (member_rate w 0) firsts (λ x. refl))
+      ∙ printed_are w iw nf 0 (low_0 w iw nf))) (printed_within w iw nf 0 (low_0 w iw nf))
 
   -- the rates with the first k members
   abbrev pub rates_at : ℕ → List ℕ
@@ -125,7 +135,8 @@ module _ (w : Written) (iw : IsWritten w) (nf : HasNoFault w) where
   unfolding first_making
   told_at k l =
       let n = items_long in let m = homes_long in let r = rates_long in
-      told_leaves (take k items) (take k homes) start (empty_making w.set.processors w.scale [] iw.lawful.some_processors iw.is_scale.positive tt (omega arith)) (λ x i. absurd (let a = i.0 in omega (arith, a))) refl
+      told_leaves (take k items) (take k homes) start (empty_making w.set.processors w.scale [] iw.lawful.some_processors iw.is_scale.positive tt
+      (omega arith)) (λ x i. absurd (let a = i.0 in omega (arith, a))) refl
       (let a = length-take-le k items (omega (arith, l, n)) in let b = length-take-le k homes (omega (arith, l, m, r)) in omega (arith, a, b))
       (all_take (IsLeafItem w.scale) k items (first_items w iw nf))
       (subst (Within w.scale) (sym (ap (λ rs. told_rates rs (take k homes) []) (rates_take k items))) (within_at k))
@@ -152,14 +163,20 @@ module _ (w : Written) (iw : IsWritten w) (nf : HasNoFault w) where
       let m = homes_long in
       let rates = last_at_k k le in
       let long = length-map (first_making w k).last (rate (first_making w k).tree) in
-      let e = told_split k (item_rates items) homes [] homes_long ∙ ap₂ (λ rs hs. told_rates rs hs (rates_at k)) (drop_at k (item_rates items) 0 (omega (arith, l, n))) (drop_at k homes 0 (omega (arith, l, m, n))) in
-      let room = told_room w.scale (get_or (item_rates items) k 0) (get_or homes k 0) (drop (suc k) (item_rates items)) (drop (suc k) homes) (rates_at k) (subst (Within w.scale) e all_within) in
+      let e = told_split k (item_rates items) homes [] homes_long ∙ ap₂ (λ rs hs. told_rates rs hs (rates_at k)) (drop_at k (item_rates items) 0
+      (omega (arith, l, n))) (drop_at k homes 0 (omega (arith, l, m, n))) in
+      let room = told_room w.scale (get_or (item_rates items) k 0) (get_or homes k 0) (drop (suc k) (item_rates items)) (drop (suc k) homes) (rates_at k)
+      (subst (Within w.scale) e all_within) in
       let s = t.scale_same in
       record {
         first_level = t.levels_same;
-        few = (let a = leaves_counted (first_making w k).tree.nodes in let b = ap length t.leaves in let c = entries_taken w k firsts le in let f = few_firsts in omega (arith, a, b, c, f, l));
-        pack = (let a = home_open k (item_rates items) homes [] homes_long (omega (arith, l, n)) (gapless_homes 0 (level_at w 0) (have w iw nf 0 (low_0 w iw nf))) in let b = ap length rates in omega (arith, a, b, long));
-        some_rate = (let a = all_at (IsLeafItem w.scale) (record { kind = kind.Pack 0; rate = 0 }) items k (first_items w iw nf) (let z = items_long in omega (arith, l, z)) in let b = get_or-map (λ (x : Item). x.rate) items k (record { kind = kind.Pack 0; rate = 0 }) 0 (let z = items_long in omega (arith, l, z)) in let c = a.1 in omega (arith, b, c));
+        few = (let a = leaves_counted (first_making w k).tree.nodes in let b = ap length t.leaves in let c = entries_taken w k firsts le in
+            let f = few_firsts in omega (arith, a, b, c, f, l));
+        pack = (let a = home_open k (item_rates items) homes [] homes_long (omega (arith, l, n)) (gapless_homes 0 (level_at w 0)
+            (have w iw nf 0 (low_0 w iw nf))) in let b = ap length rates in omega (arith, a, b, long));
+        some_rate = (let a = all_at (IsLeafItem w.scale) (record { kind = kind.Pack 0; rate = 0 }) items k (first_items w iw nf) (let z = items_long in
+            omega (arith, l, z)) in let b = get_or-map (λ (x : Item). x.rate) items k (record { kind = kind.Pack 0; rate = 0 }) 0 (let z = items_long in
+            omega (arith, l, z)) in let c = a.1 in omega (arith, b, c));
         rate_fits = (let a = room.0 in omega (arith, a, s));
         within = λ lb. (
             let a = room.1 (let b = ap length rates in omega (arith, lb, long, b)) in
@@ -177,13 +194,15 @@ put_items_more k (x ∷ xs) [] m d l e = absurd (omega (arith, e))
 put_items_more zero (x ∷ xs) (b ∷ hs) m d l e = refl
 put_items_more (suc k) (x ∷ xs) (b ∷ hs) m d l e = put_items_more k xs hs (put x.kind x.rate b m) d (omega (arith, l)) (omega (arith, e))
 
-pub home_at : (b : ℕ) (packs : List Pack) (i j : ℕ) → i < length packs → j < length (get_or packs i no_pack).members → get_or (homes_from b packs) (before packs i + j) 0 ≡ b + i
+pub home_at : (b : ℕ) (packs : List Pack) (i j : ℕ) → i < length packs → j < length (get_or packs i no_pack).members → get_or (homes_from b packs)
+    (before packs i + j) 0 ≡ b + i
 home_at b [] i j l k = absurd (omega (arith, l))
 home_at b (p ∷ packs) zero j l k =
     let n = length-replicate (length p.members) b in
     let e : 0 + j ≡ j = omega arith in
     let f : b ≡ b + 0 = omega arith in
-    ap (λ x. get_or (homes_from b (p ∷ packs)) x 0) e ∙ get_or_append_left (replicate (length p.members) b) (homes_from (suc b) packs) 0 j (omega (arith, k, n)) ∙ get_or-replicate (length p.members) j b 0 k ∙ f
+    ap (λ x. get_or (homes_from b (p ∷ packs)) x 0) e ∙ get_or_append_left (replicate (length p.members) b) (homes_from (suc b) packs) 0 j
+    (omega (arith, k, n)) ∙ get_or-replicate (length p.members) j b 0 k ∙ f
 home_at b (p ∷ packs) (suc i) j l k =
     let n = length-replicate (length p.members) b in
     let a = length-append p.members (members_of (take i packs)) in

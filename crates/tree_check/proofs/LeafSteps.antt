@@ -24,9 +24,11 @@ use Rattle.tree_check.proofs.PackScans.{rate_same}
 -- leaf x of this rate may come to pack i, and then one member more is in
 pub record IsLeafStep (w : Written) (i j : ℕ) (x : Member) : Type 0 where
   pub asks : MayCome (first_making w (before (level_at w 0) i + j)) (member_rate w 0 x) i
-  pub next : put (kind.Leaf (leaf_named (named w 0 x) x)) (member_rate w 0 x) i (first_making w (before (level_at w 0) i + j)) ≡ first_making w (before (level_at w 0) i + (j + 1))
+  pub next : put (kind.Leaf (leaf_named (named w 0 x) x)) (member_rate w 0 x) i (first_making w (before (level_at w 0) i + j)) ≡ first_making w
+      (before (level_at w 0) i + (j + 1))
 
-module _ (w : Written) (iw : IsWritten w) (nf : HasNoFault w) (i j : ℕ) (li : i < length (level_at w 0)) (lj : j < length (pack_at (level_at w 0) i).members) where
+module _ (w : Written) (iw : IsWritten w) (nf : HasNoFault w) (i j : ℕ) (li : i < length (level_at w 0))
+    (lj : j < length (pack_at (level_at w 0) i).members) where
   abbrev pub packs : List Pack
   packs = level_at w 0
 
@@ -49,7 +51,8 @@ module _ (w : Written) (iw : IsWritten w) (nf : HasNoFault w) (i j : ℕ) (li : 
   item_is = get_or-map (leaf_item w) (members_of packs) k (Number 0) no_item low ∙ ap (leaf_item w) member_is
 
   pub rate_is : get_or (item_rates (items w iw nf)) k 0 ≡ member_rate w 0 x
-  rate_is = (let n = items_long w iw nf in get_or-map (λ (y : Item). y.rate) (items w iw nf) k no_item 0 (omega (arith, n, low))) ∙ ap (λ (y : Item). y.rate) item_is
+  rate_is = (let n = items_long w iw nf in get_or-map (λ (y : Item). y.rate) (items w iw nf) k no_item 0 (omega (arith, n, low)))
+      ∙ ap (λ (y : Item). y.rate) item_is
 
   pub home_is : get_or (homes w iw nf) k 0 ≡ i
   home_is = home_at 0 packs i j li lj ∙ (let e : 0 + i ≡ i = omega arith in e)
@@ -57,7 +60,8 @@ module _ (w : Written) (iw : IsWritten w) (nf : HasNoFault w) (i j : ℕ) (li : 
   pub leaf_step : IsLeafStep w i j x
   unfolding first_making
   leaf_step = record {
-    asks = (let P : ℕ → ℕ → Type 0 = λ r b. MayCome (first_making w k) r b in subst (λ (b : ℕ). P (member_rate w 0 x) b) home_is (subst (λ (r : ℕ). P r (get_or (homes w iw nf) k 0)) rate_is (may_come w iw nf k low)));
+    asks = (let P : ℕ → ℕ → Type 0 = λ r b. MayCome (first_making w k) r b in subst (λ (b : ℕ). P (member_rate w 0 x) b) home_is
+        (subst (λ (r : ℕ). P r (get_or (homes w iw nf) k 0)) rate_is (may_come w iw nf k low)));
     next = (
         let n = items_long w iw nf in
         let h = homes_long w iw nf in
@@ -89,7 +93,8 @@ pub record IsAtLeaf (w : Written) (i j : ℕ) (ms : List Member) (rs : List ℕ)
   pub rate : r ≡ rate_in rs (named w 0 x)
 
 -- the same, from what the code looks up
-pub at_leaf : (w : Written) (i j : ℕ) (ms : List Member) (rs : List ℕ) (m : Making) (x : Member) (y : Leaf) (r : ℕ) (s : SetContents) (name : Option ℕ) → i < length (level_at w 0)
+pub at_leaf : (w : Written) (i j : ℕ) (ms : List Member) (rs : List ℕ) (m : Making) (x : Member) (y : Leaf) (r : ℕ) (s : SetContents) (name : Option ℕ) →
+    i < length (level_at w 0)
     → ms ≡ (pack_at (level_at w 0) i).members → j < length ms → x ≡ get_or ms j x → rs ≡ to_place w 0 → m ≡ first_making w (before (level_at w 0) i + j)
     → s ≡ w.set → y ≡ leaf_named (leaf_number s.tasks x) x → name ≡ named w 0 x → r ≡ rate_in rs name → IsAtLeaf w i j ms rs m x y r
 at_leaf w i j ms rs m x y r s name pack members place member rates maker set_is leaf name_is rate = record {
@@ -103,7 +108,8 @@ at_leaf w i j ms rs m x y r s name pack members place member rates maker set_is 
   rate = rate ∙ ap (rate_in rs) name_is;
 }
 
-module _ (w : Written) (iw : IsWritten w) (nf : HasNoFault w) (i j : ℕ) (ms : List Member) (rates : List ℕ) (maker : Making) (x : Member) (leaf : Leaf) (rate : ℕ) (a : IsAtLeaf w i j ms rates maker x leaf rate) where
+module _ (w : Written) (iw : IsWritten w) (nf : HasNoFault w) (i j : ℕ) (ms : List Member) (rates : List ℕ) (maker : Making) (x : Member) (leaf : Leaf)
+    (rate : ℕ) (a : IsAtLeaf w i j ms rates maker x leaf rate) where
   pub there : j < length (pack_at (level_at w 0) i).members
   there = let e = ap length a.members in let l = a.place in omega (arith, e, l)
 
@@ -148,6 +154,7 @@ first_start w = go (map (leaf_item w) (members_of (level_at w 0)))
     go xs = refl
 
 -- one level more
-pub text_more : (w : Written) (l : ℕ) → text_making w (suc l) ≡ lifted (packs_named (text_making w l) (map number_of (members_of (level_at w (suc l))))) (homes_from 0 (level_at w (suc l))) (text_making w l)
+pub text_more : (w : Written) (l : ℕ) → text_making w (suc l) ≡ lifted (packs_named (text_making w l) (map number_of (members_of (level_at w (suc l)))))
+    (homes_from 0 (level_at w (suc l))) (text_making w l)
 unfolding text_making
 text_more w l = refl

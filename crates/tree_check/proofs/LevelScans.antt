@@ -1,5 +1,6 @@
 -- The first fault of a level from that of its packs, and that of the text from those of its levels.
-use Rattle.std.proofs.Common.{◌≡◌, ℕ, zero, suc, ◌+◌, ◌<◌, ◌≤◌, ◌⊎◌, Bool, false, List, [], ◌∷◌, ◌++◌, Option, Some, None, length, get_or, MatchOption, refl, ap, arith, inl, inr, sym, subst, ◌∙◌}
+use Rattle.std.proofs.Common.{◌≡◌, ℕ, zero, suc, ◌+◌, ◌<◌, ◌≤◌, ◌⊎◌, Bool, false, List, [], ◌∷◌, ◌++◌, Option, Some, None, length, get_or}
+use Rattle.std.proofs.Common.{MatchOption, refl, ap, arith, inl, inr, sym, subst, ◌∙◌}
 use Rattle.std.specs.List.{range_with_len, sum_by}
 use Rattle.std.proofs.lemmas.Bool.{cases_eq, cases_lt, cases_Bool, both_ways}
 use Rattle.std.proofs.lemmas.List.Sums.{sum_by_push}
@@ -13,10 +14,21 @@ use Rattle.tree_check.proofs.PackScans.{IsFirstBelow, length_names}
 
 -- ---- what the marks leave out
 
-pub out_marks : (w : Written) (l : ℕ) (marks : List Bool) → AreMarks (to_place w l) (names_of w l (level_at w l)) marks → HasUnmarked (to_place w l) marks → LeavesOut w l
-out_marks w l marks a u = (u.0, u.1, λ k lk e. both_ways (get_or marks u.0 false) u.2 (a.marked u.0 u.1 (k, (let n = length_names w l (level_at w l) in omega (arith, n, lk)), e)))
+pub out_marks : (w : Written) (l : ℕ) (marks : List Bool) → AreMarks (to_place w l) (names_of w l (level_at w l)) marks → HasUnmarked (to_place w l) marks →
+    LeavesOut w l
+out_marks w l marks a u = (
+  u.0,
+  u.1,
+  λ k lk e. both_ways (get_or marks u.0 false) u.2 (a.marked u.0 u.1 (
+    k,
+    (let n = length_names w l (level_at w l) in
+        omega (arith, n, lk)),
+    e,
+  )),
+)
 
-pub in_marks : (w : Written) (l : ℕ) (marks : List Bool) → AreMarks (to_place w l) (names_of w l (level_at w l)) marks → LeavesOut w l → HasUnmarked (to_place w l) marks
+pub in_marks : (w : Written) (l : ℕ) (marks : List Bool) → AreMarks (to_place w l) (names_of w l (level_at w l)) marks → LeavesOut w l →
+    HasUnmarked (to_place w l) marks
 in_marks w l marks a out = elim (cases_Bool (get_or marks out.0 false)) [
   | inr off ↦ (out.0, out.1, off)
   | inl on ↦ absurd (let s = a.named out.0 out.1 on in out.2 s.0 (let n = length_names w l (level_at w l) in let lk = s.1 in omega (arith, n, lk)) s.2)
@@ -60,7 +72,8 @@ from_below w l Rate line f = f
 from_below w l Pair line f = f
 from_below w l Unfinished line f = absurd f.3
 
-pub to_below : (w : Written) (l : ℕ) → IsLineFault w l None → (kind : TreeKind) (line : ℕ) → HasFaultIn w l kind line → HasFaultBelow w l (length (level_at w l)) kind line
+pub to_below : (w : Written) (l : ℕ) → IsLineFault w l None → (kind : TreeKind) (line : ℕ) → HasFaultIn w l kind line →
+    HasFaultBelow w l (length (level_at w l)) kind line
 to_below w l fine Total line f = absurd (fine.0 f.1)
 to_below w l fine Unplaced line f = absurd (fine.1 f.1)
 to_below w l fine Member line f = f
@@ -76,7 +89,8 @@ level_first w l (Some fault) fine a = (from_below w l fault.kind fault.line a.0,
 
 pub range_push : (a n : ℕ) → range_with_len a (suc n) ≡ range_with_len a n ++ (a + n) ∷ []
 range_push a zero = (let e : a ≡ a + 0 = omega arith in ap (λ x. x ∷ []) e)
-range_push a (suc n) = ap (λ xs. a ∷ xs) (range_push (a + 1) n ∙ (let e : a + 1 + n ≡ a + suc n = omega arith in ap (λ x. range_with_len (a + 1) n ++ x ∷ []) e))
+range_push a (suc n) = ap (λ xs. a ∷ xs) (range_push (a + 1) n ∙ (let e : a + 1 + n ≡ a + suc n = omega arith in
+    ap (λ x. range_with_len (a + 1) n ++ x ∷ []) e))
 
 -- the line of a level is that of the level below, and as many more as it has lines
 pub line_more : (w : Written) (l : ℕ) → level_line w (suc l) ≡ suc (level_line w l + length (level_at w l))
@@ -132,7 +146,8 @@ fine_more w l fine none k lk = elim (cases_lt k l) [
   | inr ge ↦ (let e : l ≡ k = omega (arith, lk, ge) in let P : ℕ → Type 0 = λ n. HasNone (HasFaultIn w n) in subst P e none)
 ]
 
-pub first_in_level : (w : Written) (l line : ℕ) (kind : TreeKind) → l < length w.levels → IsFineBelow w l → IsFirstOf (HasFaultIn w l) line kind → IsFirstFault w line kind
+pub first_in_level : (w : Written) (l line : ℕ) (kind : TreeKind) → l < length w.levels → IsFineBelow w l → IsFirstOf (HasFaultIn w l) line kind →
+    IsFirstFault w line kind
 first_in_level w l line kind low fine first = (
   fault_there w l low kind line first.0,
   λ other at f. elim (fault_where w (omega (arith, low)) other at f) [
@@ -140,10 +155,12 @@ first_in_level w l line kind low fine first = (
       | inl less ↦ absurd (fine k less other at g)
       | inr ge ↦ elim (cases_eq k l) [
         | inl e ↦ (let P : ℕ → Type 0 = λ n. HasFaultIn w n other at in first.1 other at (subst P e g))
-        | inr ne ↦ inl (let a = line_within w l kind line first.0 in let b = line_within w k other at g in let m = lines_grow w (suc l) k (omega (arith, ge, ne)) in let x = a.1 in let y = b.0 in omega (arith, x, y, m))
+        | inr ne ↦ inl (let a = line_within w l kind line first.0 in let b = line_within w k other at g in let m = lines_grow w (suc l) k
+            (omega (arith, ge, ne)) in let x = a.1 in let y = b.0 in omega (arith, x, y, m))
       ]
     ]
-    | inr (e, at_end, z) ↦ inl (let a = line_within w l kind line first.0 in let m = lines_grow w (suc l) (length w.levels) (omega (arith, low)) in let x = a.1 in omega (arith, x, m, at_end))
+    | inr (e, at_end, z) ↦ inl (let a = line_within w l kind line first.0 in let m = lines_grow w (suc l) (length w.levels) (omega (arith, low)) in
+        let x = a.1 in omega (arith, x, m, at_end))
   ],
 )
 

@@ -1,7 +1,9 @@
 -- Marks of what a level's members name, one member more.
-use Rattle.std.proofs.Common.{◌≡◌, ◌≢◌, ℕ, ◌<◌, ◌≤◌, ◌⊎◌, ◌&&◌, Bool, true, false, List, [], ◌∷◌, ◌++◌, Option, Some, None, length, get_or, replicate, take, set, MatchBool, refl, ap, arith, inl, inr, sym, subst, ◌∙◌}
+use Rattle.std.proofs.Common.{◌≡◌, ◌≢◌, ℕ, ◌<◌, ◌≤◌, ◌⊎◌, ◌&&◌, Bool, true, false, List, [], ◌∷◌, ◌++◌, Option, Some, None, length, get_or, replicate}
+use Rattle.std.proofs.Common.{take, set, MatchBool, refl, ap, arith, inl, inr, sym, subst, ◌∙◌}
 use Rattle.std.proofs.lemmas.Bool.{cases_eq, cases_lt, both_ways}
-use Rattle.std.proofs.lemmas.List.{append_assoc, length-append, length-set, get_or-set_same, get_or-set_other, get_or_append_left, get_or_past, take-append-le, length-replicate, get_or-replicate}
+use Rattle.std.proofs.lemmas.List.{append_assoc, length-append, length-set, get_or-set_same, get_or-set_other, get_or_append_left, get_or_past}
+use Rattle.std.proofs.lemmas.List.{take-append-le, length-replicate, get_or-replicate}
 use Rattle.tree_check.specs.Scans.{rate_in, Stands, IsBadAfter, HasBadAfter, AreMarks}
 
 -- ---- names, one more
@@ -39,7 +41,8 @@ marks_none rates = record {
   marked = λ n some s. absurd (let l = s.1 in omega (arith, l));
 }
 
-pub marks_bad : (rates : List ℕ) (names : List (Option ℕ)) (marks : List Bool) (o : Option ℕ) → AreMarks rates names marks → IsBadAfter rates names o → AreMarks rates (names ++ o ∷ []) marks
+pub marks_bad : (rates : List ℕ) (names : List (Option ℕ)) (marks : List Bool) (o : Option ℕ) → AreMarks rates names marks → IsBadAfter rates names o →
+    AreMarks rates (names ++ o ∷ []) marks
 marks_bad rates names marks o a bad = record {
   long = a.long;
   named = λ n some on. stands_left names (o ∷ []) (Some n) (a.named n some on);
@@ -52,7 +55,8 @@ marks_bad rates names marks o a bad = record {
   ];
 }
 
-pub marks_good : (rates : List ℕ) (names : List (Option ℕ)) (marks : List Bool) (n : ℕ) → AreMarks rates names marks → n < length rates → AreMarks rates (names ++ Some n ∷ []) (set marks n true)
+pub marks_good : (rates : List ℕ) (names : List (Option ℕ)) (marks : List Bool) (n : ℕ) → AreMarks rates names marks → n < length rates →
+    AreMarks rates (names ++ Some n ∷ []) (set marks n true)
 marks_good rates names marks n a low =
     let lm : n < length marks = (let e = a.long in omega (arith, e, low)) in
     record {
@@ -70,7 +74,8 @@ marks_good rates names marks n a low =
       ];
     }
 
-pub fresh_good : (rates : List ℕ) (names : List (Option ℕ)) (marks : List Bool) (n : ℕ) → AreMarks rates names marks → get_or rates n 0 ≢ 0 → get_or marks n false ≡ false → IsBadAfter rates names (Some n) → ⊥
+pub fresh_good : (rates : List ℕ) (names : List (Option ℕ)) (marks : List Bool) (n : ℕ) → AreMarks rates names marks → get_or rates n 0 ≢ 0 →
+    get_or marks n false ≡ false → IsBadAfter rates names (Some n) → ⊥
 fresh_good rates names marks n a some off bad = elim bad [
   | inl z ↦ some z
   | inr st ↦ both_ways (get_or marks n false) off (a.marked n (omega (arith, some)) st)
@@ -104,7 +109,8 @@ bad_last rates names news o b =
           (subst (λ (x : Option ℕ). P news x) (sym (last_at news o)) b),
     )
 
-pub bad_split : (rates : List ℕ) (names news : List (Option ℕ)) (o : Option ℕ) → HasBadAfter rates names (news ++ o ∷ []) → HasBadAfter rates names news ⊎ IsBadAfter rates (names ++ news) o
+pub bad_split : (rates : List ℕ) (names news : List (Option ℕ)) (o : Option ℕ) → HasBadAfter rates names (news ++ o ∷ []) → HasBadAfter rates names news
+    ⊎ IsBadAfter rates (names ++ news) o
 bad_split rates names news o b =
     let k = b.0 in
     let P : List (Option ℕ) → Option ℕ → Type 0 = λ t x. IsBadAfter rates (names ++ t) x in
@@ -120,7 +126,8 @@ bad_split rates names news o b =
           let low = b.1 in
           let e : k ≡ length news = omega (arith, low, ge, a) in
           let Q : ℕ → Type 0 = λ n. IsBadAfter rates (names ++ take n (news ++ o ∷ [])) (get_or (news ++ o ∷ []) n None) in
-          subst (λ (t : List (Option ℕ)). P t o) (take_all news o) (subst (λ (x : Option ℕ). P (take (length news) (news ++ o ∷ [])) x) (last_at news o) (subst Q e b.2)))
+          subst (λ (t : List (Option ℕ)). P t o) (take_all news o) (subst (λ (x : Option ℕ). P (take (length news) (news ++ o ∷ [])) x) (last_at news o)
+          (subst Q e b.2)))
     ]
 
 -- what holds once the members `news` of a pack are placed
@@ -129,13 +136,15 @@ pub record Placing (rates : List ℕ) (names news : List (Option ℕ)) (fine : B
   pub good : MatchBool fine (¬ HasBadAfter rates names news) (HasBadAfter rates names news)
 
 pub placing_none : (rates : List ℕ) (names : List (Option ℕ)) (marks : List Bool) → AreMarks rates names marks → Placing rates names [] true marks
-placing_none rates names marks a = record { are = subst (λ (xs : List (Option ℕ)). AreMarks rates xs marks) (sym (nil names)) a; good = λ b. (let l = b.1 in omega (arith, l)) }
+placing_none rates names marks a =
+    record { are = subst (λ (xs : List (Option ℕ)). AreMarks rates xs marks) (sym (nil names)) a; good = λ b. (let l = b.1 in omega (arith, l)) }
   where
     nil : (xs : List (Option ℕ)) → xs ++ [] ≡ xs
     nil [] = refl
     nil (x ∷ xs) = ap (λ ys. x ∷ ys) (nil xs)
 
-pub placing_more : (rates : List ℕ) (names news : List (Option ℕ)) (o : Option ℕ) (good placed : Bool) (marks marks' : List Bool) → Placing rates names news good marks
+pub placing_more : (rates : List ℕ) (names news : List (Option ℕ)) (o : Option ℕ) (good placed : Bool) (marks marks' : List Bool) → Placing rates names news
+    good marks
     → AreMarks rates ((names ++ news) ++ o ∷ []) marks' → MatchBool placed (¬ IsBadAfter rates (names ++ news) o) (IsBadAfter rates (names ++ news) o)
     → Placing rates names (news ++ o ∷ []) (good && placed) marks'
 placing_more rates names news o good placed marks marks' p m b = record {
@@ -143,7 +152,8 @@ placing_more rates names news o good placed marks marks' p m b = record {
   good = go good placed p.good b;
 }
   where
-    go : (good placed : Bool) → MatchBool good (¬ HasBadAfter rates names news) (HasBadAfter rates names news) → MatchBool placed (¬ IsBadAfter rates (names ++ news) o) (IsBadAfter rates (names ++ news) o) →
+    go : (good placed : Bool) → MatchBool good (¬ HasBadAfter rates names news) (HasBadAfter rates names news) →
+        MatchBool placed (¬ IsBadAfter rates (names ++ news) o) (IsBadAfter rates (names ++ news) o) →
         MatchBool (good && placed) (¬ HasBadAfter rates names (news ++ o ∷ [])) (HasBadAfter rates names (news ++ o ∷ []))
     go true true g b = λ bad. elim (bad_split rates names news o bad) [ inl x ↦ g x | inr y ↦ b y ]
     go true false g b = bad_last rates names news o b

@@ -1,5 +1,6 @@
 -- One pack more of a scan: its bad members, its rate, its pairs, and the first fault so far.
-use Rattle.std.proofs.Common.{◌≡◌, ◌≢◌, ℕ, zero, suc, ◌+◌, ◌-◌, ◌^◌, ◌<◌, ◌≤◌, ◌⊎◌, cond, eqb, leb, List, [], ◌∷◌, ◌++◌, Option, Some, None, map, min, length, get_or, take, drop, MatchOption, refl, ap, arith, inl, inr, sym, subst, ◌∙◌}
+use Rattle.std.proofs.Common.{◌≡◌, ◌≢◌, ℕ, zero, suc, ◌+◌, ◌-◌, ◌^◌, ◌<◌, ◌≤◌, ◌⊎◌, cond, eqb, leb, List, [], ◌∷◌, ◌++◌, Option, Some, None, map, min}
+use Rattle.std.proofs.Common.{length, get_or, take, drop, MatchOption, refl, ap, arith, inl, inr, sym, subst, ◌∙◌}
 use Rattle.std.specs.Prelude.{sum}
 use Rattle.std.proofs.lemmas.Bool.{cases_eq, cases_lt, cond-true, cond-false, eq-eqb, eqb-true, le-leb, leb-true, false_from_ne_true}
 use Rattle.std.proofs.lemmas.List.{append_assoc, length-append, length-map, map-append, get_or_append_left}
@@ -7,7 +8,8 @@ use Rattle.tree_check.specs.declared.check.Fault.{Fault}
 use Rattle.tree_check.specs.declared.faults.TreeKind.{TreeKind}
 use Rattle.tree_check.specs.declared.faults.TreeKind.TheVariants.{Total, Unplaced, Member, Rate, Pair, Unfinished}
 use Rattle.tree_check.specs.Written.{Pack, Written, level_at, pack_at, pack_line}
-use Rattle.tree_check.specs.Faults.{to_place, named, rate_of_named, member_rate, members_of, before, names_at, members_rate, rank, HasBadMember, HasRoomWith, HasNone, IsFirstOf}
+use Rattle.tree_check.specs.Faults.{to_place, named, rate_of_named, member_rate, members_of, before, names_at, members_rate, rank, HasBadMember}
+use Rattle.tree_check.specs.Faults.{HasRoomWith, HasNone, IsFirstOf}
 use Rattle.tree_check.specs.Scans.{rate_in, names_of, IsBadAfter, HasBadAfter, IsLeast, fault_of, HasPackFault, HasFaultBelow, with_fault}
 use Rattle.tree_check.proofs.MoreHomes.{members_more}
 
@@ -19,14 +21,16 @@ front_take [] post (suc k) j l m = absurd (omega (arith, l))
 front_take (x ∷ news) post (suc k) zero l m = refl
 front_take (x ∷ news) post (suc k) (suc j) l m = front_take news post k j (omega (arith, l)) (omega (arith, m))
 
-pub front_same : (pre news post : List (Option ℕ)) (k j : ℕ) → k ≤ length news → j < length pre + k → get_or (pre ++ take k news) j None ≡ get_or (pre ++ (news ++ post)) j None
+pub front_same : (pre news post : List (Option ℕ)) (k j : ℕ) → k ≤ length news → j < length pre + k → get_or (pre ++ take k news) j None ≡ get_or
+    (pre ++ (news ++ post)) j None
 front_same [] news post k j l m = front_take news post k j l (omega (arith, m))
 front_same (x ∷ pre) news post k zero l m = refl
 front_same (x ∷ pre) news post k (suc j) l m = front_same pre news post k j l (omega (arith, m))
 
 pub part_at : (pre news post : List (Option ℕ)) (k : ℕ) → k < length news → get_or (pre ++ (news ++ post)) (length pre + k) None ≡ get_or news k None
 part_at [] news post k l = (let e : 0 + k ≡ k = omega arith in ap (λ n. get_or (news ++ post) n None) e) ∙ get_or_append_left news post None k l
-part_at (x ∷ pre) news post k l = (let e : suc (length pre) + k ≡ suc (length pre + k) = omega arith in ap (λ n. get_or (x ∷ (pre ++ (news ++ post))) n None) e) ∙ part_at pre news post k l
+part_at (x ∷ pre) news post k l = (let e : suc (length pre) + k ≡ suc (length pre + k) = omega arith in ap (λ n. get_or (x ∷ (pre ++ (news ++ post))) n
+    None) e) ∙ part_at pre news post k l
 
 pub length_take : (news : List (Option ℕ)) (k : ℕ) → k ≤ length news → length (take k news) ≡ k
 length_take news zero l = refl
@@ -85,7 +89,8 @@ pub members_both : (ps qs : List Pack) → members_of (ps ++ qs) ≡ members_of 
 members_both [] qs = refl
 members_both (p ∷ ps) qs = ap (λ ms. p.members ++ ms) (members_both ps qs) ∙ sym (append_assoc p.members (members_of ps) (members_of qs))
 
-pub names_more : (w : Written) (l i : ℕ) (packs : List Pack) → i < length packs → names_of w l (take (i + 1) packs) ≡ names_of w l (take i packs) ++ map (named w l) (pack_at packs i).members
+pub names_more : (w : Written) (l i : ℕ) (packs : List Pack) → i < length packs → names_of w l (take (i + 1) packs) ≡ names_of w l (take i packs) ++ map
+    (named w l) (pack_at packs i).members
 names_more w l i packs low = ap (map (named w l)) (members_more i packs low) ∙ map-append (named w l) (members_of (take i packs)) (pack_at packs i).members
 
 module _ (w : Written) (l i : ℕ) (low : i < length (level_at w l)) where
@@ -148,7 +153,8 @@ rates_named w l p = ap sum (go p.members)
   where
     go : (ms : List _) → map (rate_in (to_place w l)) (map (named w l) ms) ≡ map (member_rate w l) ms
     go [] = refl
-    go (x ∷ ms) = ap (λ r. r ∷ map (rate_in (to_place w l)) (map (named w l) ms)) (sym (rate_same w l (named w l x))) ∙ ap (λ rs. member_rate w l x ∷ rs) (go ms)
+    go (x ∷ ms) = ap (λ r. r ∷ map (rate_in (to_place w l)) (map (named w l) ms)) (sym (rate_same w l (named w l x))) ∙ ap (λ rs. member_rate w l x ∷ rs)
+        (go ms)
 
 -- ---- the least rate
 
@@ -167,23 +173,27 @@ least_more scale least i packs a = record {
   ];
 }
 
-pub room_from : (w : Written) (l i least : ℕ) → IsLeast w.scale (level_at w l) i least → (pack_at (level_at w l) i).rate ≤ w.scale → least ≤ w.scale - (pack_at (level_at w l) i).rate → HasRoomWith w l i
+pub room_from : (w : Written) (l i least : ℕ) → IsLeast w.scale (level_at w l) i least → (pack_at (level_at w l) i).rate ≤ w.scale →
+    least ≤ w.scale - (pack_at (level_at w l) i).rate → HasRoomWith w l i
 room_from w l i least a within le = let (j, lj, lr) = a.some (w.scale - (pack_at (level_at w l) i).rate) (omega arith) le in (j, lj, omega (arith, lr, within))
 
-pub room_none : (w : Written) (l i least : ℕ) → IsLeast w.scale (level_at w l) i least → w.scale - (pack_at (level_at w l) i).rate < least → HasRoomWith w l i → ⊥
+pub room_none : (w : Written) (l i least : ℕ) → IsLeast w.scale (level_at w l) i least → w.scale - (pack_at (level_at w l) i).rate < least →
+    HasRoomWith w l i → ⊥
 room_none w l i least a less room = let z = a.all room.0 room.1 in let r = room.2 in omega (arith, z, r, less)
 
 -- ---- what is wrong with a pack
 
 -- the first kind of fault of pack i, where it has one
 abbrev pub IsPackFirst : Written → ℕ → ℕ → Option TreeKind → Type 0
-IsPackFirst w l i o = MatchOption o ((kind : TreeKind) → HasPackFault w l kind i → ⊥) (λ kind. HasPackFault w l kind i × ((other : TreeKind) → HasPackFault w l other i → rank kind ≤ rank other))
+IsPackFirst w l i o = MatchOption o ((kind : TreeKind) → HasPackFault w l kind i → ⊥) (λ kind. HasPackFault w l kind i × ((other : TreeKind) →
+    HasPackFault w l other i → rank kind ≤ rank other))
 
 -- what placing a pack's members tells
 abbrev pub IsSum : Written → ℕ → ℕ → Option ℕ → Type 0
 IsSum w l i o = MatchOption o (HasBadMember w l i) (λ s. (¬ HasBadMember w l i) × (s ≡ min (members_rate w l (pack_at (level_at w l) i)) (2 ^ 128 - 1)))
 
-module _ (w : Written) (l i least : ℕ) (scale_fits : w.scale ≤ 2 ^ 94) (within : (pack_at (level_at w l) i).rate ≤ w.scale) (a : IsLeast w.scale (level_at w l) i least) where
+module _ (w : Written) (l i least : ℕ) (scale_fits : w.scale ≤ 2 ^ 94) (within : (pack_at (level_at w l) i).rate ≤ w.scale)
+    (a : IsLeast w.scale (level_at w l) i least) where
   abbrev pub printed : ℕ
   printed = (pack_at (level_at w l) i).rate
 
@@ -246,7 +256,8 @@ module _ (w : Written) (l i least : ℕ) (scale_fits : w.scale ≤ 2 ^ 94) (with
       no_fault : (s : ℕ) → s ≡ printed → w.scale - printed < least → fault_of (Some s) printed least w.scale ≡ None
       no_fault s same less =
           cond-true (eqb s printed) (cond (leb least (w.scale - printed)) (Some Pair) None) (Some Rate) (eq-eqb s printed same)
-          ∙ cond-false (leb least (w.scale - printed)) (Some Pair) None (false_from_ne_true (leb least (w.scale - printed)) (λ t. (let x = leb-true least (w.scale - printed) t in omega (arith, x, less))))
+          ∙ cond-false (leb least (w.scale - printed)) (Some Pair) None (false_from_ne_true (leb least (w.scale - printed))
+          (λ t. (let x = leb-true least (w.scale - printed) t in omega (arith, x, less))))
 
       pair_fault : (s : ℕ) → s ≡ printed → least ≤ w.scale - printed → fault_of (Some s) printed least w.scale ≡ Some Pair
       pair_fault s same le =
@@ -254,7 +265,8 @@ module _ (w : Written) (l i least : ℕ) (scale_fits : w.scale ≤ 2 ^ 94) (with
           ∙ cond-true (leb least (w.scale - printed)) (Some Pair) None (le-leb least (w.scale - printed) le)
 
       rate_fault : (s : ℕ) → (s ≡ printed → ⊥) → fault_of (Some s) printed least w.scale ≡ Some Rate
-      rate_fault s ne = cond-false (eqb s printed) (cond (leb least (w.scale - printed)) (Some Pair) None) (Some Rate) (false_from_ne_true (eqb s printed) (λ t. ne (eqb-true s printed t)))
+      rate_fault s ne = cond-false (eqb s printed) (cond (leb least (w.scale - printed)) (Some Pair) None) (Some Rate) (false_from_ne_true (eqb s printed)
+          (λ t. ne (eqb-true s printed t)))
 
 -- ---- the first fault so far
 
@@ -265,13 +277,16 @@ IsFirstBelow w l n o = MatchOption o (HasNone (HasFaultBelow w l n)) (λ f. IsFi
 pub first_none : (w : Written) (l : ℕ) → IsFirstBelow w l 0 None
 first_none w l kind line f = let z = f.1 in omega (arith, z)
 
-pub below_split : (w : Written) (l i : ℕ) (kind : TreeKind) (line : ℕ) → HasFaultBelow w l (i + 1) kind line → HasFaultBelow w l i kind line ⊎ ((line ≡ pack_line w l i) × HasPackFault w l kind i)
+pub below_split : (w : Written) (l i : ℕ) (kind : TreeKind) (line : ℕ) → HasFaultBelow w l (i + 1) kind line → HasFaultBelow w l i kind line
+    ⊎ ((line ≡ pack_line w l i) × HasPackFault w l kind i)
 below_split w l i kind line f = elim (cases_lt f.0 i) [
   | inl low ↦ inl (f.0, low, f.2, f.3)
-  | inr ge ↦ inr (let lt = f.1 in let e : f.0 ≡ i = omega (arith, ge, lt) in let P : ℕ → Type 0 = λ k. HasPackFault w l kind k in (f.2 ∙ ap (pack_line w l) e, subst P e f.3))
+  | inr ge ↦ inr (let lt = f.1 in let e : f.0 ≡ i = omega (arith, ge, lt) in let P : ℕ → Type 0 = λ k. HasPackFault w l kind k in
+      (f.2 ∙ ap (pack_line w l) e, subst P e f.3))
 ]
 
-pub first_more : (w : Written) (l i line : ℕ) (first : Option Fault) (o : Option TreeKind) → line ≡ pack_line w l i → IsFirstBelow w l i first → IsPackFirst w l i o → IsFirstBelow w l (i + 1) (with_fault first o line)
+pub first_more : (w : Written) (l i line : ℕ) (first : Option Fault) (o : Option TreeKind) → line ≡ pack_line w l i → IsFirstBelow w l i first →
+    IsPackFirst w l i o → IsFirstBelow w l (i + 1) (with_fault first o line)
 first_more w l i line (Some f) o e a b = (
   (let h = a.0 in (h.0, (let z = h.1 in omega (arith, z)), h.2, h.3)),
   λ other at g. elim (below_split w l i other at g) [

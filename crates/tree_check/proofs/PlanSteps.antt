@@ -16,7 +16,8 @@ pub record IsLevelStep (w : Written) (l : ℕ) (maker : Making) (packs : List Pa
   pub order : NamesLower maker (map number_of (members_of packs))
   pub next : lifted (packs_named maker (map number_of (members_of packs))) (homes_from 0 packs) maker ≡ text_making w l
 
-pub level_step : (w : Written) → IsWritten w → HasNoFault w → (l : ℕ) → 1 ≤ l → l < length w.levels → (maker : Making) (packs : List Pack) → maker ≡ text_making w (l - 1) → packs ≡ level_at w l → IsLevelStep w l maker packs
+pub level_step : (w : Written) → IsWritten w → HasNoFault w → (l : ℕ) → 1 ≤ l → l < length w.levels → (maker : Making) (packs : List Pack) →
+    maker ≡ text_making w (l - 1) → packs ≡ level_at w l → IsLevelStep w l maker packs
 level_step w iw nf zero some low maker packs e f = absurd (omega (arith, some))
 level_step w iw nf (suc k) some low maker packs e f =
     let z : suc k - 1 ≡ k = omega arith in

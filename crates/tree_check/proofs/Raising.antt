@@ -1,5 +1,6 @@
 -- A level whose duals go to homes that are told, in an order that is told.
-use Rattle.std.proofs.Common.{◌≡◌, ℕ, suc, ◌+◌, ◌-◌, ◌*◌, ◌<◌, ◌≤◌, List, [], ◌∷◌, ◌++◌, length, get_or, refl, ap, ap₂, arith, inl, inr, sym, subst, subst₂, ◌∙◌, None}
+use Rattle.std.proofs.Common.{◌≡◌, ℕ, suc, ◌+◌, ◌-◌, ◌*◌, ◌<◌, ◌≤◌, List, [], ◌∷◌, ◌++◌, length, get_or, refl, ap, ap₂, arith, inl, inr, sym, subst}
+use Rattle.std.proofs.Common.{subst₂, ◌∙◌, None}
 use Rattle.std.proofs.lemmas.Bool.{ltb-true, lt-ltb}
 use Rattle.std.proofs.lemmas.List.{append-nil, length-map}
 use Rattle.std.specs.List.{AllByRecursion}
@@ -38,7 +39,8 @@ begun_by m ps v c =
       roots_below = λ p i lo none. elim (b.roots_below p i lo none) [ inl e ↦ inl e | inr a ↦ inr (moved p a) ];
       each_below = b.each_below;
       waiting = λ i l. (let (j, lj, e, less) = c.lower i l in
-          let P : ℕ → Type 0 = λ x. rate m.tree x < m.tree.scale → IsPack m.tree x × (suc (suc (level m.tree x)) ≡ suc m.tree.levels) × (dual m.tree x ≡ None) × (rate m.tree x < m.tree.scale) in
+          let P : ℕ → Type 0 = λ x. rate m.tree x < m.tree.scale → IsPack m.tree x × (suc (suc (level m.tree x)) ≡ suc m.tree.levels)
+          × (dual m.tree x ≡ None) × (rate m.tree x < m.tree.scale) in
           subst P e (λ less'. (let a = v.making.last_packs j lj in (a.0, ap suc a.1, a.2, less'))) less);
       apart = c.apart;
     }
@@ -73,7 +75,11 @@ told_long (r ∷ rs) (b ∷ homes) ss = let ih = told_long rs homes (with_item r
 -- rates of which any two pass the scale
 pub pairs_from : (scale : ℕ) (ss : List ℕ) → ((i j : ℕ) → i < j → j < length ss → scale < get_or ss i 0 + get_or ss j 0) → PairsExceed scale ss
 pairs_from scale [] h = tt
-pairs_from scale (s ∷ ss) h = (front ss (λ j l. h 0 (suc j) (omega arith) (omega (arith, l))), pairs_from scale ss (λ i j l m. h (suc i) (suc j) (omega arith) (omega arith)))
+pairs_from scale (s ∷ ss) h = (
+  front ss (λ j l. h 0 (suc j) (omega arith) (omega (arith, l))),
+  pairs_from scale ss (λ i j l m. h (suc i) (suc j)
+      (omega arith) (omega arith)),
+)
   where
     front : (ys : List ℕ) → ((j : ℕ) → j < length ys → scale < s + get_or ys j 0) → AllByRecursion (λ y. scale < s + y) ys
     front [] f = tt
@@ -93,7 +99,8 @@ module _ (m : Making) (ps homes : List ℕ) (v : IsLevel m) (c : AreLower m ps) 
   unfolding lifted
   raise_told w = told_duals ps homes m.tree (new_level m) (begun_by m ps v c) v.filled refl (λ i l. refl) long w
 
-  pub raise_level : WithinAfter (new_level m) (dual_items m.tree ps) homes → PairsExceed m.tree.scale rates → 0 < length rates → (k : ℕ) → total rates ≡ k * m.tree.scale → IsLevel made
+  pub raise_level : WithinAfter (new_level m) (dual_items m.tree ps) homes → PairsExceed m.tree.scale rates → 0 < length rates → (k : ℕ) →
+      total rates ≡ k * m.tree.scale → IsLevel made
   raise_level w pairs some k whole =
       let p = raise_told w in
       let long = length-map made.last (rate made.tree) in
@@ -102,7 +109,8 @@ module _ (m : Making) (ps homes : List ℕ) (v : IsLevel m) (c : AreLower m ps) 
         making = p.making;
         filled = p.filled;
         pairs = subst₂ (λ s xs. PairsExceed s xs) (sym p.scale_same) (sym p.rates) pairs;
-        positive = subst AllSome (sym p.rates) (told_some (dual_rates m.tree ps) homes [] (duals_some m.tree ps (λ i l. (let (j, lj, e, less) = c.lower i l in less))) tt);
+        positive = subst AllSome (sym p.rates) (told_some (dual_rates m.tree ps) homes []
+            (duals_some m.tree ps (λ i l. (let (j, lj, e, less) = c.lower i l in less))) tt);
         whole = (k, ap total p.rates ∙ whole ∙ ap (λ s. k * s) (sym p.scale_same));
         some = (let a = ap length p.rates in omega (arith, a, some, long));
         leaves = (let a = p.sum in let z = duals_have_no_part m.tree ps in let l = v.leaves in
@@ -118,11 +126,13 @@ pub duals_listed : (t : Tree) (ps : List ℕ) → total (dual_rates t ps) ≡ su
 duals_listed t [] = refl
 duals_listed t (p ∷ ps) = ap (λ n. (t.scale - rate t p) + n) (duals_listed t ps)
 
-pub lower_whole : (m : Making) (ps : List ℕ) → IsLevel m → AreLower m ps → (k : ℕ) × (total (dual_rates m.tree ps) + k * m.tree.scale ≡ length m.last * m.tree.scale)
+pub lower_whole : (m : Making) (ps : List ℕ) → IsLevel m → AreLower m ps → (k : ℕ) × (total (dual_rates m.tree ps) + k * m.tree.scale ≡ length
+    m.last * m.tree.scale)
 lower_whole m ps v c =
     let (k, whole) = lift_whole m v in
     let P : ℕ → Type 0 = λ x. x < length m.tree.nodes in
-    let same = sum_of_same (length m.tree.nodes) (λ p. m.tree.scale - rate m.tree p) ps (lower_packs m) c.apart (kept_apart (is_lower m) m.last v.making.last_apart)
+    let same = sum_of_same (length m.tree.nodes) (λ p. m.tree.scale - rate m.tree p) ps (lower_packs m) c.apart (kept_apart (is_lower m) m.last
+    v.making.last_apart)
     (λ i l. (let (j, lj, e, less) = c.lower i l in subst P e (v.making.last_packs j lj).0.0))
     (λ i l. (let (j, lj, e, ok) = kept_in (is_lower m) m.last i l in subst P e (v.making.last_packs j lj).0.0))
     (λ x a. (let (i, l, at) = a in let (j, lj, e, less) = c.lower i l in
@@ -139,7 +149,8 @@ lower_whole m ps v c =
     (k, omega (arith, whole, same, a, b))
 
 -- so the rates of the level above come to a multiple of the scale
-pub raise_whole : (m : Making) (ps homes : List ℕ) → IsLevel m → AreLower m ps → length homes ≡ length ps → (k : ℕ) × (total (told_rates (dual_rates m.tree ps) homes []) ≡ k * m.tree.scale)
+pub raise_whole : (m : Making) (ps homes : List ℕ) → IsLevel m → AreLower m ps → length homes ≡ length ps → (k : ℕ)
+    × (total (told_rates (dual_rates m.tree ps) homes []) ≡ k * m.tree.scale)
 raise_whole m ps homes v c long =
     let (k, whole) = lower_whole m ps v c in
     let sum = told_total (dual_rates m.tree ps) homes [] (let d = duals_long m.tree ps in omega (arith, d, long)) in

@@ -1,5 +1,6 @@
 -- What the scan of a level has once one pack more was seen, and the numbers of its lines.
-use Rattle.std.proofs.Common.{◌≡◌, ℕ, suc, ◌+◌, ◌-◌, ◌*◌, ◌^◌, ◌<◌, ◌≤◌, ◌≢◌, List, ◌++◌, Bool, Option, Some, None, map, min, length, take, ap, ap₂, arith, sym, subst, ◌∙◌}
+use Rattle.std.proofs.Common.{◌≡◌, ℕ, suc, ◌+◌, ◌-◌, ◌*◌, ◌^◌, ◌<◌, ◌≤◌, ◌≢◌, List, ◌++◌, Bool, Option, Some, None, map, min, length, take, ap, ap₂}
+use Rattle.std.proofs.Common.{arith, sym, subst, ◌∙◌}
 use Rattle.std.specs.Prelude.{sum}
 use Rattle.std.proofs.Math.Nat.{mul-le-mul_left}
 use Rattle.tree_check.specs.declared.check.Fault.{Fault}
@@ -11,7 +12,8 @@ use Rattle.tree_check.proofs.LevelLists.{all_at}
 use Rattle.tree_check.proofs.PackScans.{names_more, has_bad, no_bad, rates_named, least_more, pack_first, first_more, IsSum, IsFirstBelow}
 use Rattle.tree_check.proofs.LevelScans.{line_more, lines_grow}
 
-pub sum_is : (w : Written) (l i : ℕ) (o : Option ℕ) → i < length (level_at w l) → IsPlaced (to_place w l) (names_of w l (take i (level_at w l))) (map (named w l) (pack_at (level_at w l) i).members) o → IsSum w l i o
+pub sum_is : (w : Written) (l i : ℕ) (o : Option ℕ) → i < length (level_at w l) → IsPlaced (to_place w l) (names_of w l (take i (level_at w l)))
+    (map (named w l) (pack_at (level_at w l) i).members) o → IsSum w l i o
 sum_is w l i None low p = has_bad w l i low p
 sum_is w l i (Some s) low p = ((λ b. p.0 (no_bad w l i low b)), p.1 ∙ ap (λ n. min n (2 ^ 128 - 1)) (rates_named w l (pack_at (level_at w l) i)))
 
@@ -28,7 +30,8 @@ pub record IsScanStep (w : Written) (l i : ℕ) (rates_now : List ℕ) (marks_no
   pub marks : AreMarks rates_now (names_of w l (take i (level_at w l)) ++ map (named w l) ms) marks_now
   pub placed : IsPlaced rates_now (names_of w l (take i (level_at w l))) (map (named w l) ms) o
 
-module _ (w : Written) (l i : ℕ) (rates : List ℕ) (marks : List Bool) (ms : List Member) (rate : ℕ) (o : Option ℕ) (a : IsScanStep w l i rates marks ms rate o) where
+module _ (w : Written) (l i : ℕ) (rates : List ℕ) (marks : List Bool) (ms : List Member) (rate : ℕ) (o : Option ℕ) (a : IsScanStep w l i rates marks ms rate
+    o) where
   abbrev pub before_it : List (Option ℕ)
   before_it = names_of w l (take i (level_at w l))
 
@@ -45,7 +48,8 @@ module _ (w : Written) (l i : ℕ) (rates : List ℕ) (marks : List Bool) (ms : 
       let P : List ℕ → List Member → Type 0 = λ rs xs. IsPlaced rs before_it (map (named w l) xs) o in
       sum_is w l i o a.pack (subst (λ (xs : List Member). P (to_place w l) xs) a.members (subst (λ (rs : List ℕ). P rs ms) a.rates a.placed))
 
-  pub first_step : (iw : IsWritten w) (least line : ℕ) (first : Option Fault) → IsLeast w.scale (level_at w l) i least → line ≡ pack_line w l i → IsFirstBelow w l i first
+  pub first_step : (iw : IsWritten w) (least line : ℕ) (first : Option Fault) → IsLeast w.scale (level_at w l) i least → line ≡ pack_line w l i →
+      IsFirstBelow w l i first
       → IsFirstBelow w l (i + 1) (with_fault first (fault_of o rate least w.scale) line)
   first_step iw least line first p at f =
       let within = pack_within w l i iw a.level a.pack in

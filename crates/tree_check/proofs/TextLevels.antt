@@ -1,5 +1,6 @@
 -- The levels of a text with no fault are made one by one, and the last one ends the tree.
-use Rattle.std.proofs.Common.{◌≡◌, ℕ, zero, suc, ◌+◌, ◌-◌, ◌*◌, ◌<◌, ◌≤◌, List, [], ◌∷◌, map, length, get_or, refl, ap, ap₂, arith, inl, inr, sym, subst, subst₂, ◌∙◌}
+use Rattle.std.proofs.Common.{◌≡◌, ℕ, zero, suc, ◌+◌, ◌-◌, ◌*◌, ◌<◌, ◌≤◌, List, [], ◌∷◌, map, length, get_or, refl, ap, ap₂, arith, inl, inr, sym}
+use Rattle.std.proofs.Common.{subst, subst₂, ◌∙◌}
 use Rattle.std.specs.Prelude.{sum}
 use Rattle.std.proofs.lemmas.Bool.{cases_eq, ltb-true}
 use Rattle.std.proofs.lemmas.List.{get_or-map, length-map, ext_get_or}
@@ -27,7 +28,8 @@ use Rattle.tree_check.proofs.Apart.{sum_of_all}
 use Rattle.tree_check.proofs.Told.{told_rates, item_rates, Within, WithinAfter, told_leaves, told_room}
 use Rattle.tree_check.proofs.Raising.{AreLower, told_some, told_total, raise_told, raise_level, raise_whole, raise_entries}
 use Rattle.tree_check.proofs.LevelLists.{length-homes}
-use Rattle.tree_check.proofs.Faultless.{number_in, there_is, numbers, numbers_long, numbers_apart, numbers_all, numbers_low, number_some, rate_named, printed, printed_at, printed_long, printed_are, printed_within, printed_pairs, printed_some}
+use Rattle.tree_check.proofs.Faultless.{number_in, there_is, numbers, numbers_long, numbers_apart, numbers_all, numbers_low, number_some, rate_named}
+use Rattle.tree_check.proofs.Faultless.{printed, printed_at, printed_long, printed_are, printed_within, printed_pairs, printed_some}
 
 -- the tree in the making is that of the text's first levels
 pub record IsTextLevel (w : Written) (l : ℕ) (m : Making) : Type 0 where
@@ -68,10 +70,12 @@ module _ (w : Written) (iw : IsWritten w) (nf : HasNoFault w) where
   first_total =
       let rs = map (member_rate w 0) firsts in
       let ns = numbers w iw nf 0 low_0 in
-      let same : rs ≡ map (rate_at w 0) ns = (let n = length-map firsts (member_rate w 0) in let k = numbers_long w iw nf 0 low_0 in let j = length-map ns (rate_at w 0) in
+      let same : rs ≡ map (rate_at w 0) ns = (let n = length-map firsts (member_rate w 0) in let k = numbers_long w iw nf 0 low_0 in
+      let j = length-map ns (rate_at w 0) in
       ext_get_or 0 rs (map (rate_at w 0) ns) (omega (arith, n, k, j)) (λ i li. (let lm : i < length firsts = omega (arith, li, n) in
       rate_named w iw nf 0 low_0 i lm ∙ sym (get_or-map (rate_at w 0) ns i 0 0 (omega (arith, lm, k)))))) in
-      let all = sum_of_all (length (to_place w 0)) (rate_at w 0) ns (numbers_apart w iw nf 0 low_0) (numbers_low w iw nf 0 low_0) (λ x lx some. numbers_all w iw nf 0 low_0 x some) in
+      let all = sum_of_all (length (to_place w 0)) (rate_at w 0) ns (numbers_apart w iw nf 0 low_0) (numbers_low w iw nf 0 low_0) (λ x lx some. numbers_all
+      w iw nf 0 low_0 x some) in
       let whole = total_places (to_place w 0) in
       let s = same_total (to_place w 0) in
       let fill : sum (to_place w 0) ≡ w.set.processors * w.scale = elim (cases_eq (sum (to_place w 0)) (w.set.processors * w.scale)) [
@@ -86,21 +90,29 @@ module _ (w : Written) (iw : IsWritten w) (nf : HasNoFault w) where
 
   -- each may stand in level 0
   pub first_items : AllByRecursion (IsLeafItem w.scale) (map (leaf_item w) firsts)
-  first_items = each firsts (λ k lk. (let at = rate_named w iw nf 0 low_0 k lk in let n = numbers_long w iw nf 0 low_0 in let s = number_some w iw nf 0 low_0 k (omega (arith, lk, n)) in omega (arith, at, s)))
+  first_items = each firsts (λ k lk. (let at = rate_named w iw nf 0 low_0 k lk in let n = numbers_long w iw nf 0 low_0 in let s = number_some w iw nf 0
+      low_0 k (omega (arith, lk, n)) in omega (arith, at, s)))
       (λ k lk. first_within k lk)
     where
-      each : (xs : List Member) → ((k : ℕ) → k < length xs → 0 < get_or (map (member_rate w 0) xs) k 0) → ((k : ℕ) → k < length xs → get_or (map (member_rate w 0) xs) k 0 ≤ w.scale) → AllByRecursion (IsLeafItem w.scale) (map (leaf_item w) xs)
+      each : (xs : List Member) → ((k : ℕ) → k < length xs → 0 < get_or (map (member_rate w 0) xs) k 0) → ((k : ℕ) → k < length xs →
+          get_or (map (member_rate w 0) xs) k 0 ≤ w.scale) → AllByRecursion (IsLeafItem w.scale) (map (leaf_item w) xs)
       each [] some low = tt
-      each (x ∷ xs) some low = ((tt, some 0 (omega arith), low 0 (omega arith)), each xs (λ k lk. some (suc k) (omega (arith, lk))) (λ k lk. low (suc k) (omega (arith, lk))))
+      each (x ∷ xs) some low = (
+        (tt, some 0 (omega arith), low 0 (omega arith)),
+        each xs (λ k lk. some (suc k) (omega (arith, lk)))
+            (λ k lk. low (suc k) (omega (arith, lk))),
+      )
 
       first_within : (k : ℕ) → k < length firsts → get_or (map (member_rate w 0) firsts) k 0 ≤ w.scale
       first_within k lk =
           let e = printed_are w iw nf 0 low_0 in
           let long = length-homes 0 (level_at w 0) in
           let n = length-map firsts (member_rate w 0) in
-          within_of (map (member_rate w 0) firsts) (homes_from 0 (level_at w 0)) [] (omega (arith, long, n)) (subst (Within w.scale) (sym e) (printed_within w iw nf 0 low_0)) k (omega (arith, lk, n))
+          within_of (map (member_rate w 0) firsts) (homes_from 0 (level_at w 0)) [] (omega (arith, long, n)) (subst (Within w.scale) (sym e)
+          (printed_within w iw nf 0 low_0)) k (omega (arith, lk, n))
         where
-          within_of : (rs homes ss : List ℕ) → length homes ≡ length rs → Within w.scale (told_rates rs homes ss) → (k : ℕ) → k < length rs → get_or rs k 0 ≤ w.scale
+          within_of : (rs homes ss : List ℕ) → length homes ≡ length rs → Within w.scale (told_rates rs homes ss) → (k : ℕ) → k < length rs →
+              get_or rs k 0 ≤ w.scale
           within_of [] homes ss e v k l = absurd (omega (arith, l))
           within_of (r ∷ rs) [] ss e v k l = absurd (omega (arith, e))
           within_of (r ∷ rs) (b ∷ homes) ss e v zero l = (told_room w.scale r b rs homes ss v).0
@@ -118,7 +130,8 @@ module _ (w : Written) (iw : IsWritten w) (nf : HasNoFault w) where
       let are : told_rates (item_rates items) homes [] ≡ printed w iw nf 0 low_0 = ap (λ xs. told_rates xs homes []) rs ∙ printed_are w iw nf 0 low_0 in
       let n = length-map firsts (leaf_item w) in
       let h = length-homes 0 (level_at w 0) in
-      let p = told_leaves items homes m (empty_making w.set.processors w.scale [] some_processors some_scale tt (omega arith)) (λ x i. absurd (let a = i.0 in omega (arith, a))) refl (omega (arith, n, h)) first_items
+      let p = told_leaves items homes m (empty_making w.set.processors w.scale [] some_processors some_scale tt (omega arith))
+      (λ x i. absurd (let a = i.0 in omega (arith, a))) refl (omega (arith, n, h)) first_items
       (subst (Within w.scale) (sym are) (printed_within w iw nf 0 low_0)) in
       let made : Making = put_items items homes m in
       let rates = p.rates ∙ are in
@@ -210,11 +223,13 @@ module _ (w : Written) (iw : IsWritten w) (nf : HasNoFault w) where
         let s = t.scale_same in
         omega (arith, at, printed_rate, made_rate, same, s, less)
 
-    pub order_at : (i : ℕ) → i < length nexts → (get_or order i 0 < length m.last) × (get_or named_packs i 0 ≡ last_at m (get_or order i 0)) × (rate_at w (suc l) (get_or order i 0) + rate m.tree (last_at m (get_or order i 0)) ≡ m.tree.scale) × (0 < rate_at w (suc l) (get_or order i 0))
+    pub order_at : (i : ℕ) → i < length nexts → (get_or order i 0 < length m.last) × (get_or named_packs i 0 ≡ last_at m (get_or order i 0))
+        × (rate_at w (suc l) (get_or order i 0) + rate m.tree (last_at m (get_or order i 0)) ≡ m.tree.scale) × (0 < rate_at w (suc l) (get_or order i 0))
     order_at i li =
         let P : ℕ → Type 0 = λ j. 0 < rate_at w (suc l) j in
         let n = numbers_long w iw nf (suc l) low in
-        let some : 0 < rate_at w (suc l) (get_or order i 0) = subst P (sym (ap (λ xs. get_or xs i 0) numbers_are)) (number_some w iw nf (suc l) low i (omega (arith, li, n))) in
+        let some : 0 < rate_at w (suc l) (get_or order i 0) = subst P (sym (ap (λ xs. get_or xs i 0) numbers_are)) (number_some w iw nf (suc l) low i
+        (omega (arith, li, n))) in
         let a = lacks (get_or order i 0) some in
         (a.0, get_or-map (λ j. get_or m.last j 0) order i 0 0 (let o = order_long in omega (arith, li, o)), a.1, some)
 
@@ -232,7 +247,8 @@ module _ (w : Written) (iw : IsWritten w) (nf : HasNoFault w) where
           let oi = order_at i mi in let oj = order_at j mj in
           let same = t.level.making.last_apart (get_or order i 0) (get_or order j 0) oi.0 oj.0 (sym oi.1 ∙ e ∙ oj.1) in
           let k = numbers_long w iw nf (suc l) low in
-          numbers_apart w iw nf (suc l) low i j (omega (arith, mi, k)) (omega (arith, mj, k)) (sym (ap (λ xs. get_or xs i 0) numbers_are) ∙ same ∙ ap (λ xs. get_or xs j 0) numbers_are));
+          numbers_apart w iw nf (suc l) low i j (omega (arith, mi, k)) (omega (arith, mj, k)) (sym (ap (λ xs. get_or xs i 0) numbers_are) ∙ same
+          ∙ ap (λ xs. get_or xs j 0) numbers_are));
     }
 
     -- the duals have the rates of the members
@@ -265,7 +281,8 @@ module _ (w : Written) (iw : IsWritten w) (nf : HasNoFault w) where
         let told = raise_told m named_packs next_homes t.level are_lower long within in
         let (k, whole) = raise_whole m named_packs next_homes t.level are_lower long in
         record {
-          level = raise_level m named_packs next_homes t.level are_lower long within (subst₂ (λ s xs. PairsExceed s xs) (sym t.scale_same) (sym next_printed) (printed_pairs w iw nf (suc l) low))
+          level = raise_level m named_packs next_homes t.level are_lower long within (subst₂ (λ s xs. PairsExceed s xs) (sym t.scale_same)
+              (sym next_printed) (printed_pairs w iw nf (suc l) low))
               (let e = ap length next_printed in let s = printed_some w iw nf (suc l) low in omega (arith, e, s)) k whole;
           rates = told.rates ∙ next_printed;
           scale_same = told.scale_same ∙ t.scale_same;

@@ -55,7 +55,8 @@ with_item_in r zero (s ∷ ss) = (0, omega arith, omega arith)
 with_item_in r (suc b) (s ∷ ss) = let (i, l, le) = with_item_in r b ss in (suc i, omega (arith, l), le)
 
 -- so the item has room where all packs are within the scale in the end
-pub told_room : (scale r b : ℕ) (rs homes ss : List ℕ) → Within scale (told_rates (r ∷ rs) (b ∷ homes) ss) → (r ≤ scale) × (b < length ss → get_or ss b 0 + r ≤ scale)
+pub told_room : (scale r b : ℕ) (rs homes ss : List ℕ) → Within scale (told_rates (r ∷ rs) (b ∷ homes) ss) → (r ≤ scale) × (b < length ss →
+    get_or ss b 0 + r ≤ scale)
 told_room scale r b rs homes ss w =
     let (i, li, le) = with_item_in r b ss in
     let g = told_grow rs homes (with_item r b ss) i li in
@@ -80,9 +81,19 @@ pub record IsTold (m made : Making) (items : List Item) (homes : List ℕ) : Typ
   pub leaves : entries made.tree.nodes ≡ entries m.tree.nodes ++ item_entries items
 
 pub told_none : (m : Making) (homes : List ℕ) → IsMaking m [] → Filled m.tree → IsTold m m [] homes
-told_none m homes h f = record { making = h; filled = f; scale_same = refl; levels_same = refl; processors_same = refl; rates = refl; sum = omega arith; leaves = sym (append-nil (entries m.tree.nodes)) }
+told_none m homes h f = record {
+  making = h;
+  filled = f;
+  scale_same = refl;
+  levels_same = refl;
+  processors_same = refl;
+  rates = refl;
+  sum = omega arith;
+  leaves = sym (append-nil (entries m.tree.nodes));
+}
 
-pub told_step : (m n made : Making) (rs : List ℕ) (x : Item) (items : List Item) (b : ℕ) (homes : List ℕ) → IsPut m n rs x.kind x.rate b → IsTold n made items homes → IsTold m made (x ∷ items) (b ∷ homes)
+pub told_step : (m n made : Making) (rs : List ℕ) (x : Item) (items : List Item) (b : ℕ) (homes : List ℕ) → IsPut m n rs x.kind x.rate b →
+    IsTold n made items homes → IsTold m made (x ∷ items) (b ∷ homes)
 told_step m n made rs x items b homes p rest = record {
   making = rest.making;
   filled = rest.filled;
@@ -98,27 +109,33 @@ told_step m n made rs x items b homes p rest = record {
 abbrev pub WithinAfter : Making → List Item → List ℕ → Type 0
 WithinAfter m items homes = Within m.tree.scale (told_rates (item_rates items) homes (last_rates m))
 
-pub after_put : (m n : Making) (rs : List ℕ) (x : Item) (items : List Item) (b : ℕ) (homes : List ℕ) → IsPut m n rs x.kind x.rate b → WithinAfter m (x ∷ items) (b ∷ homes) → WithinAfter n items homes
+pub after_put : (m n : Making) (rs : List ℕ) (x : Item) (items : List Item) (b : ℕ) (homes : List ℕ) → IsPut m n rs x.kind x.rate b →
+    WithinAfter m (x ∷ items) (b ∷ homes) → WithinAfter n items homes
 after_put m n rs x items b homes p w i l =
-    let e : told_rates (item_rates items) homes (last_rates n) ≡ told_rates (item_rates items) homes (with_item x.rate b (last_rates m)) = ap (told_rates (item_rates items) homes) p.rates in
+    let e : told_rates (item_rates items) homes (last_rates n) ≡ told_rates (item_rates items) homes (with_item x.rate b (last_rates m)) =
+    ap (told_rates (item_rates items) homes) p.rates in
     let f = w i (let z = ap length e in omega (arith, z, l)) in
     let at = ap (λ ss. get_or ss i 0) e in
     let s = p.scale_same in
     omega (arith, f, at, s)
 
-pub told_leaves : (items : List Item) (homes : List ℕ) (m : Making) → IsMaking m [] → Filled m.tree → m.tree.levels ≡ 1 → length homes ≡ length items → AllByRecursion (IsLeafItem m.tree.scale) items → WithinAfter m items homes →
+pub told_leaves : (items : List Item) (homes : List ℕ) (m : Making) → IsMaking m [] → Filled m.tree → m.tree.levels ≡ 1 → length homes ≡ length items →
+    AllByRecursion (IsLeafItem m.tree.scale) items → WithinAfter m items homes →
     IsTold m (put_items items homes m) items homes
 told_leaves [] homes m h f one long all w = told_none m homes h f
 told_leaves (x ∷ items) [] m h f one long all w = absurd (omega (arith, long))
 told_leaves (x ∷ items) (b ∷ homes) m h f one long all w =
     let n : Making = put x.kind x.rate b m in
     let room = told_room m.tree.scale x.rate b (item_rates items) homes (last_rates m) w in
-    let p : IsPut m n [] x.kind x.rate b = put_at m [] [] x.kind x.rate b h f all.0.1 (leaf_next x.kind x.rate m.tree one all.0.0) (leaf_serves x.kind all.0.0) room.0 room.1 in
+    let p : IsPut m n [] x.kind x.rate b = put_at m [] [] x.kind x.rate b h f all.0.1 (leaf_next x.kind x.rate m.tree one all.0.0)
+    (leaf_serves x.kind all.0.0) room.0 room.1 in
     let P : ℕ → Type 0 = λ s. AllByRecursion (IsLeafItem s) items in
     told_step m n (put_items items homes n) [] x items b homes p
-    (told_leaves items homes n p.making p.filled (p.levels_same ∙ one) (omega (arith, long)) (subst P (sym p.scale_same) all.1) (after_put m n [] x items b homes p w))
+    (told_leaves items homes n p.making p.filled (p.levels_same ∙ one) (omega (arith, long)) (subst P (sym p.scale_same) all.1) (after_put m n [] x items b
+    homes p w))
 
-pub told_duals : (qs homes : List ℕ) (t : Tree) (m : Making) → IsMaking m qs → Filled m.tree → m.tree.scale ≡ t.scale → ((i : ℕ) → i < length qs → rate m.tree (get_or qs i 0) ≡ rate t (get_or qs i 0)) → length homes ≡ length qs → WithinAfter m (dual_items t qs) homes →
+pub told_duals : (qs homes : List ℕ) (t : Tree) (m : Making) → IsMaking m qs → Filled m.tree → m.tree.scale ≡ t.scale → ((i : ℕ) → i < length qs →
+    rate m.tree (get_or qs i 0) ≡ rate t (get_or qs i 0)) → length homes ≡ length qs → WithinAfter m (dual_items t qs) homes →
     IsTold m (put_items (dual_items t qs) homes m) (dual_items t qs) homes
 told_duals [] homes t m h f scale same long w = told_none m homes h f
 told_duals (q ∷ qs) [] t m h f scale same long w = absurd (omega (arith, long))
@@ -129,6 +146,8 @@ told_duals (q ∷ qs) (b ∷ homes) t m h f scale same long w =
     let less = (h.waiting 0 (omega arith)).3 in
     let now = same 0 (omega arith) in
     let room = told_room m.tree.scale r b (item_rates (dual_items t qs)) homes (last_rates m) w in
-    let p : IsPut m n qs x.kind r b = put_at m (q ∷ qs) qs x.kind r b h f (omega (arith, less, now, scale)) (dual_next q qs m t h scale now) (dual_serves q qs h.apart) room.0 room.1 in
+    let p : IsPut m n qs x.kind r b = put_at m (q ∷ qs) qs x.kind r b h f (omega (arith, less, now, scale)) (dual_next q qs m t h scale now)
+    (dual_serves q qs h.apart) room.0 room.1 in
     told_step m n (put_items (dual_items t qs) homes n) qs x (dual_items t qs) b homes p
-    (told_duals qs homes t n p.making p.filled (p.scale_same ∙ scale) (λ i l. (let v = h.waiting (suc i) (omega arith) in p.kept (get_or qs i 0) v.0 v.1 ∙ same (suc i) (omega arith))) (omega (arith, long)) (after_put m n qs x (dual_items t qs) b homes p w))
+    (told_duals qs homes t n p.making p.filled (p.scale_same ∙ scale) (λ i l. (let v = h.waiting (suc i) (omega arith) in p.kept (get_or qs i 0) v.0 v.1
+    ∙ same (suc i) (omega arith))) (omega (arith, long)) (after_put m n qs x (dual_items t qs) b homes p w))

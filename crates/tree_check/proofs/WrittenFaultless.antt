@@ -1,5 +1,6 @@
 -- No fault stands in what a reduction tree of a set is written as.
-use Rattle.std.proofs.Common.{◌≡◌, ℕ, zero, suc, ◌+◌, ◌-◌, ◌*◌, ◌<◌, ◌≤◌, ◌≢◌, ◌⊎◌, List, [], ◌∷◌, Option, Some, None, map, length, get_or, take, refl, ap, ap₂, arith, inl, inr, sym, subst, ◌∙◌}
+use Rattle.std.proofs.Common.{◌≡◌, ℕ, zero, suc, ◌+◌, ◌-◌, ◌*◌, ◌<◌, ◌≤◌, ◌≢◌, ◌⊎◌, List, [], ◌∷◌, Option, Some, None, map, length, get_or, take}
+use Rattle.std.proofs.Common.{refl, ap, ap₂, arith, inl, inr, sym, subst, ◌∙◌}
 use Rattle.std.specs.Prelude.{sum}
 use Rattle.std.proofs.lemmas.Bool.{cases_lt, cases_Bool}
 use Rattle.std.proofs.lemmas.List.{get_or-map, length-map, length-append, get_or_past}
@@ -11,7 +12,8 @@ use Rattle.sched_base.specs.Sets.{SetContents, IsLawful}
 use Rattle.sched_base.proofs.CountingLemmas.{bit_at, bit_off, find_below}
 use Rattle.sched_base.proofs.SumLemmas.{sum_to-same}
 use Rattle.sched_base.proofs.ListLemmas.{sum_list}
-use Rattle.run_tree.specs.Tree.{Tree, IsTree, IsPack, IsMember, IsLeaf, IsDual, kind_at, leaf, leaf_of, rate, home, level, primal, member, members, dual, is_leaf}
+use Rattle.run_tree.specs.Tree.{Tree, IsTree, IsPack, IsMember, IsLeaf, IsDual, kind_at, leaf, leaf_of, rate, home, level, primal, member, members}
+use Rattle.run_tree.specs.Tree.{dual, is_leaf}
 use Rattle.run_tree.specs.TreeOfSet.{IsTreeOf, task_id}
 use Rattle.run_tree.specs.Schedule.{packs_at}
 use Rattle.run_tree.proofs.KindLemmas.{not_pack_leaf, not_pack}
@@ -29,7 +31,8 @@ use Rattle.tree_check.proofs.Apart.{sum_of_all}
 use Rattle.tree_check.proofs.Faultless.{number_in, there_is}
 use Rattle.tree_check.proofs.TextLevels.{total_places}
 use Rattle.tree_check.proofs.LevelNodes.{pack_of, pack_in, packs_apart, nodes_of, node_in_level, nodes_apart, nodes_all}
-use Rattle.tree_check.proofs.WrittenTree.{w, ht, levels_long, level_long, pack_is, word, members_long, name_is, is_alone, place_dual, place_idle, idles_long, is_idle_true, idle_is_leaf, leaf_names, dual_names, names, rate_some, Names, Is}
+use Rattle.tree_check.proofs.WrittenTree.{w, ht, levels_long, level_long, pack_is, word, members_long, name_is, is_alone, place_dual, place_idle}
+use Rattle.tree_check.proofs.WrittenTree.{idles_long, is_idle_true, idle_is_leaf, leaf_names, dual_names, names, rate_some, Names, Is}
 
 -- a task's number
 abbrev pub id_of : Leaf → ℕ
@@ -126,7 +129,8 @@ module _ (s : SetContents) (t : Tree) (ls : IsLawful s) (h : IsTreeOf s t) where
       let (d, id, from, up) = dual_of q is.0 (omega (arith, at, some)) in
       let (k, e, r, si) = dual_names s t ls h d id in
       let low : level t (primal t d) ≡ l = ap (level t) from ∙ is.1 in
-      let number : k ≡ i = packs_apart t l k i (let a = si.1 in let z = ap (λ j. length (packs_at t j)) low in omega (arith, a, z)) li (ap (λ j. pack_of t j k) (sym low) ∙ si.2 ∙ from) in
+      let number : k ≡ i = packs_apart t l k i (let a = si.1 in let z = ap (λ j. length (packs_at t j)) low in omega (arith, a, z)) li
+      (ap (λ j. pack_of t j k) (sym low) ∙ si.2 ∙ from) in
       (d, (id.0, not_pack (kind_at t d) id.1), up ∙ ap suc is.1, ap (λ j. named text (suc j) (word s t ls h d)) (sym low) ∙ e ∙ ap Some number)
 
   -- ---- the kinds
@@ -178,10 +182,12 @@ module _ (s : SetContents) (t : Tree) (ls : IsLawful s) (h : IsTreeOf s t) where
       let added = total_listed (λ k. rate t (member t q k)) (length (members t q)) (map (member_rate text l) ws) (omega (arith, a, c)) (λ k lk.
       let m = tree_is.members_are q k is.0 lk in
       let (n, f, r, si) = names s t ls h (member t q k) l m.0 (ap (level t) m.1 ∙ is.1) in
-      get_or-map (member_rate text l) ws k (Number 0) 0 (omega (arith, lk, a)) ∙ ap (member_rate text l) (get_or-map word' (members t q) k 0 (Number 0) lk) ∙ ap (rate_of_named text l) f ∙ r) in
+      get_or-map (member_rate text l) ws k (Number 0) 0 (omega (arith, lk, a)) ∙ ap (member_rate text l) (get_or-map word' (members t q) k 0 (Number 0) lk)
+      ∙ ap (rate_of_named text l) f ∙ r) in
       ap (λ (z : Pack). z.rate) e ∙ sym (tree_is.summed q is.0) ∙ sym added ∙ sym (ap (members_rate text l) e)
 
-  pub pair_exceeds : (l j i : ℕ) → l < t.levels → j < i → i < length (packs_at t l) → (pack_at (level_at text l) j).rate + (pack_at (level_at text l) i).rate ≤ t.scale → ⊥
+  pub pair_exceeds : (l j i : ℕ) → l < t.levels → j < i → i < length (packs_at t l) → (pack_at (level_at text l) j).rate + (pack_at (level_at text l)
+      i).rate ≤ t.scale → ⊥
   pair_exceeds l j i b less li room =
       let lj : j < length (packs_at t l) = omega (arith, less, li) in
       let a = pack_in t l j lj in let c = pack_in t l i li in
@@ -207,8 +213,10 @@ module _ (s : SetContents) (t : Tree) (ls : IsLawful s) (h : IsTreeOf s t) where
       let number : ℕ → ℕ = λ x. number_in (named text 0 (word s t ls h x)) in
       let ns = map number xs in
       let long = length-map xs number in
-      let number_k : (k : ℕ) → (lk : k < length xs) → get_or ns k 0 ≡ (names_k 0 k lk).0 = λ k lk. get_or-map number xs k 0 0 lk ∙ ap number_in (names_k 0 k lk).1 in
-      let rate_k : (k : ℕ) → k < length xs → rate_at text 0 (get_or ns k 0) ≡ rate t (node_k 0 k) = λ k lk. ap (rate_at text 0) (number_k k lk) ∙ (names_k 0 k lk).2 in
+      let number_k : (k : ℕ) → (lk : k < length xs) → get_or ns k 0 ≡ (names_k 0 k lk).0 = λ k lk. get_or-map number xs k 0 0 lk
+      ∙ ap number_in (names_k 0 k lk).1 in
+      let rate_k : (k : ℕ) → k < length xs → rate_at text 0 (get_or ns k 0) ≡ rate t (node_k 0 k) = λ k lk. ap (rate_at text 0) (number_k k lk)
+      ∙ (names_k 0 k lk).2 in
       let g : ℕ → ℕ = λ x. bit (is_leaf (kind_at t x)) * rate t x in
       let apart : AreApart ns = (λ i j li lj e. (
       let mi : i < length xs = omega (arith, li, long) in let mj : j < length xs = omega (arith, lj, long) in
@@ -235,9 +243,13 @@ module _ (s : SetContents) (t : Tree) (ls : IsLawful s) (h : IsTreeOf s t) where
       let r = rate_k k lk in
       let at = ap (rate_at text 0) (get_or-map number xs k 0 0 lk) in
       omega (arith, one, r, at))) in
-      let leaves = sum_of_all (length t.nodes) g xs (nodes_apart t tree_is 0) (λ k lk. (node_in_level t tree_is 0 k lk).0.0) (λ x lx some. elim (cases_Bool (is_leaf (kind_at t x))) [
+      let leaves = sum_of_all (length t.nodes) g xs (nodes_apart t tree_is 0) (λ k lk. (node_in_level t tree_is 0 k lk).0.0)
+      (λ x lx some. elim (cases_Bool (is_leaf (kind_at t x))) [
         | inr off ↦ absurd (let z = ap (λ b. b * rate t x) (bit_off (is_leaf (kind_at t x)) off) in omega (arith, z, some))
-        | inl on ↦ (let P : ℕ → Type 0 = λ n. Among x (nodes_of t n) in subst P (tree_is.leaves_are x (lx, on)).0 (nodes_all t tree_is x (lx, not_pack_leaf (kind_at t x) on)))
+        | inl on ↦ (let P : ℕ → Type 0 = λ n. Among x (nodes_of t n) in subst P (tree_is.leaves_are x (lx, on)).0 (nodes_all t tree_is x (
+          lx,
+          not_pack_leaf (kind_at t x) on,
+        )))
       ]) in
       let whole = tree_is.total in
       let m = ap (λ n. n * t.scale) h.processors in
@@ -252,8 +264,10 @@ module _ (s : SetContents) (t : Tree) (ls : IsLawful s) (h : IsTreeOf s t) where
       let le = before_le (level_at text l) (suc i) in
       let lk : k < length (nodes_of t l) = omega (arith, high, le, long) in
       elim bad [ inl z ↦ none_absent l k b' lk z | inr twice ↦ (let (j, lj, same) = twice in none_twice l j k b' lj lk same) ]
-  written_faultless kinds.Rate line (l, i, b, li, e, ne) = ne (rate_sums l i (levels_are l b) (let n = level_long s t ls h l (levels_are l b) in omega (arith, li, n)))
-  written_faultless kinds.Pair line (l, i, b, li, e, (j, lj, room)) = pair_exceeds l j i (levels_are l b) lj (let n = level_long s t ls h l (levels_are l b) in omega (arith, li, n)) room
+  written_faultless kinds.Rate line (l, i, b, li, e, ne) = ne (rate_sums l i (levels_are l b) (let n = level_long s t ls h l (levels_are l b) in
+      omega (arith, li, n)))
+  written_faultless kinds.Pair line (l, i, b, li, e, (j, lj, room)) = pair_exceeds l j i (levels_are l b) lj (let n = level_long s t ls h l (levels_are l b)
+      in omega (arith, li, n)) room
   written_faultless kinds.Unfinished line (e, (i, li, less)) =
       let l = length text.levels - 1 in
       let some : 0 < length text.levels = elim (cases_lt 0 (length text.levels)) [

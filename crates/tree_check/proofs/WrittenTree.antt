@@ -1,5 +1,6 @@
 -- What a reduction tree of a set is written as has no fault.
-use Rattle.std.proofs.Common.{◌≡◌, ℕ, zero, suc, ◌+◌, ◌-◌, ◌<◌, ◌≢◌, ◌⊎◌, true, false, List, [], ◌∷◌, ◌++◌, Some, None, map, length, get_or, refl, ap, arith, inl, inr, sym, subst, ◌∙◌, eq-eqb}
+use Rattle.std.proofs.Common.{◌≡◌, ℕ, zero, suc, ◌+◌, ◌-◌, ◌<◌, ◌≢◌, ◌⊎◌, true, false, List, [], ◌∷◌, ◌++◌, Some, None, map, length, get_or, refl, ap}
+use Rattle.std.proofs.Common.{arith, inl, inr, sym, subst, ◌∙◌, eq-eqb}
 use Rattle.std.proofs.lemmas.Bool.{cases_Bool, cond-true, cond-false, both_ways, eqb-true}
 use Rattle.std.proofs.lemmas.List.{get_or-map, length-map, get_or_append_left, get_or-append_right, map-append}
 use Rattle.std.proofs.lemmas.List.FromFn.{get_or-map-range_with_len, length-map-range_with_len}
@@ -13,7 +14,8 @@ use Rattle.sched_base.specs.Scale.{rate_of}
 use Rattle.sched_base.specs.Sets.{SetContents, IsLawful, IsFree, NamesDiffer, task_at, no_task}
 use Rattle.run_tree.specs.declared.kinds.Kind.{Kind}
 use Rattle.run_tree.specs.declared.kinds.Kind.TheVariants as kind
-use Rattle.run_tree.specs.Tree.{Tree, IsTree, IsMember, IsLeaf, IsDual, kind_at, leaf, leaf_of, rate, home, level, primal, primal_of, members, dual, is_leaf, is_pack, is_dual}
+use Rattle.run_tree.specs.Tree.{Tree, IsTree, IsMember, IsLeaf, IsDual, kind_at, leaf, leaf_of, rate, home, level, primal, primal_of, members, dual}
+use Rattle.run_tree.specs.Tree.{is_leaf, is_pack, is_dual}
 use Rattle.run_tree.specs.TreeOfSet.{IsTreeOf, task_id, idle_count, is_real}
 use Rattle.run_tree.specs.Schedule.{packs_at}
 use Rattle.run_tree.specs.Plans.{PlanContents}
@@ -27,10 +29,12 @@ use Rattle.tree_check.specs.Faults.{rate_at, named, members_of, names_at}
 use Rattle.tree_check.proofs.LevelNodes.{pack_of, placed, nodes_of}
 
 -- the task of a name is found
-pub name_found : (tasks : List declared.Task) (i j : ℕ) → NamesDiffer tasks → j < length tasks → position_from (λ (u : declared.Task). bytes_eq u.name (task_at tasks j).name) i tasks ≡ Some (i + j)
+pub name_found : (tasks : List declared.Task) (i j : ℕ) → NamesDiffer tasks → j < length tasks → position_from (λ (u : declared.Task). bytes_eq u.name
+    (task_at tasks j).name) i tasks ≡ Some (i + j)
 name_found [] i j d l = absurd (omega (arith, l))
 name_found (u ∷ ts) i zero d l =
-    cond-true (bytes_eq u.name u.name) (Some i) (position_from (λ (v : declared.Task). bytes_eq v.name u.name) (i + 1) ts) ((bytes_eq-Decides u.name u.name).1 refl) ∙ ap Some (omega arith)
+    cond-true (bytes_eq u.name u.name) (Some i) (position_from (λ (v : declared.Task). bytes_eq v.name u.name) (i + 1) ts)
+    ((bytes_eq-Decides u.name u.name).1 refl) ∙ ap Some (omega arith)
 name_found (u ∷ ts) i (suc j) d l =
     let name = (task_at ts j).name in
     let differs : bytes_eq u.name name ≡ false = elim (cases_Bool (bytes_eq u.name name)) [
@@ -113,7 +117,8 @@ module _ (s : SetContents) (t : Tree) (ls : IsLawful s) (h : IsTreeOf s t) where
       Either z = ((j : ℕ) × (leaf t z ≡ Task (task_id j)) × (n ≡ j) × (j < count)) ⊎ ((k : ℕ) × (leaf t z ≡ Idle k) × (n ≡ count + k))
 
       go : Either x → Either y → x ≡ y
-      go (inl (j, e, f, g)) (inl (j', e', f', g')) = let same : j' ≡ j = omega (arith, f, f') in h.tasks.once x y (task_id j) a.0 b.0 e (e' ∙ ap (λ i. Task (task_id i)) same)
+      go (inl (j, e, f, g)) (inl (j', e', f', g')) = let same : j' ≡ j = omega (arith, f, f') in h.tasks.once x y (task_id j) a.0 b.0 e
+          (e' ∙ ap (λ i. Task (task_id i)) same)
       go (inl (j, e, f, g)) (inr (k, e', f')) = absurd (omega (arith, f, f', g))
       go (inr (k, e, f)) (inl (j, e', f', g)) = absurd (omega (arith, f, f', g))
       go (inr (k, e, f)) (inr (k', e', f')) = let same : k' ≡ k = omega (arith, f, f') in h.idles.once x y k a.0 b.0 e (e' ∙ ap Idle same)
@@ -142,7 +147,8 @@ module _ (s : SetContents) (t : Tree) (ls : IsLawful s) (h : IsTreeOf s t) where
       ∙ get_or-map-range_with_len (λ k. rate t (idle_node t k)) 0 (idle_count t) k k 0 l (omega arith)
 
   pub place_dual : (l i : ℕ) → l < t.levels → i < length (packs_at t l) → rate_at w (suc l) i ≡ t.scale - rate t (pack_of t l i)
-  place_dual l i b li = get_or-map (λ (q : Pack). t.scale - q.rate) (level_at w l) i no_pack 0 (let n = level_long l b in omega (arith, li, n)) ∙ ap (λ (q : Pack). t.scale - q.rate) (pack_is l i b li)
+  place_dual l i b li = get_or-map (λ (q : Pack). t.scale - q.rate) (level_at w l) i no_pack 0 (let n = level_long l b in omega (arith, li, n))
+      ∙ ap (λ (q : Pack). t.scale - q.rate) (pack_is l i b li)
 
   pub idle_at : (x k : ℕ) → IsLeaf t x → leaf t x ≡ Idle k → idle_node t k ≡ x
   idle_at x k i e = idle_found t k x i.0 (λ y l. elim (cases_Bool (is_idle_leaf k (leaf_of (kind_at t y)))) [
@@ -164,8 +170,13 @@ module _ (s : SetContents) (t : Tree) (ls : IsLawful s) (h : IsTreeOf s t) where
           let of : leaf t x ≡ Task id = ap leaf_of e in
           let below = h.tasks.known x id i of in
           let (y, iy, ey, ry) = h.tasks.has_task id.0 below in
-          let same : x ≡ y = h.tasks.once x y id i iy of ey in
-          (id.0, ap (λ k. named w 0 (kind_written p k)) e ∙ name_found s.tasks 0 id.0 ls.names_differ below ∙ ap Some (omega arith), place_task id.0 below ∙ sym ry ∙ ap (rate t) (sym same), (i, inl (id.0, of, refl, below)))
+          let same : x ≡ y = h.tasks.once x y id i iy of ey in (
+            id.0,
+            ap (λ k. named w 0 (kind_written p k)) e ∙ name_found s.tasks 0 id.0 ls.names_differ below ∙ ap Some (omega arith),
+            place_task id.0 below
+                ∙ sym ry ∙ ap (rate t) (sym same),
+            (i, inl (id.0, of, refl, below)),
+          )
       by_leaf (Idle k) e =
           let of : leaf t x ≡ Idle k = ap leaf_of e in
           (count + k, ap (λ k. named w 0 (kind_written p k)) e, place_idle k (h.idles.below x k i of) ∙ ap (rate t) (idle_at x k i of), (i, inr (k, of, refl)))
@@ -206,5 +217,6 @@ module _ (s : SetContents) (t : Tree) (ls : IsLawful s) (h : IsTreeOf s t) where
     where
       go : KindOf (kind_at t x) → 0 < rate t x
       go (inl a_leaf) = (ht.leaves_are x (i.0, a_leaf)).1
-      go (inr (inl a_dual)) = let d = ht.duals_are x (i.0, a_dual) in let has = ht.has_dual (primal t x) x d.0 d.1 in let r = has.2 in let l = has.3 in omega (arith, r, l)
+      go (inr (inl a_dual)) = let d = ht.duals_are x (i.0, a_dual) in let has = ht.has_dual (primal t x) x d.0 d.1 in let r = has.2 in let l = has.3 in
+          omega (arith, r, l)
       go (inr (inr a_pack)) = absurd (both_ways (is_pack (kind_at t x)) i.1 a_pack)

@@ -89,21 +89,24 @@ module _ (processors scale : ℕ) (rates : List ℕ) (h : RatesFit processors sc
   tasks_follow =
       let start = first.empty_making processors scale rates h.some_processors h.some_scale each fit in
       ap (λ rs. put_items (task_items 0 rates) (homes_from scale rs []) (started processors scale)) (sym (task_rates 0 rates))
-      ∙ leaves_follow (task_items 0 rates) (started processors scale) start (λ x i. absurd (let a = i.0 in omega (arith, a))) refl (task_leaves scale 0 rates each)
+      ∙ leaves_follow (task_items 0 rates) (started processors scale) start (λ x i. absurd (let a = i.0 in omega (arith, a))) refl
+      (task_leaves scale 0 rates each)
 
   pub servers_are : last_rates tasks_in ≡ packed scale rates
   unfolding packed
   servers_are = (first.packed processors scale rates h.some_processors h.some_scale each fit).rates ∙ ap (λ rs. packed_from scale rs []) (task_rates 0 rates)
 
   pub servers_total : sum (packed scale rates) ≡ sum rates
-  servers_total = ap sum (sym servers_are) ∙ same_total (last_rates tasks_in) ∙ first.packed_total processors scale rates h.some_processors h.some_scale each fit ∙ sym (same_total rates)
+  servers_total = ap sum (sym servers_are) ∙ same_total (last_rates tasks_in) ∙ first.packed_total processors scale rates h.some_processors h.some_scale
+      each fit ∙ sym (same_total rates)
 
   -- what the idle leaves are asked for
   pub amounts_are : idles scale (processors * scale - sum rates) (packed scale rates) ≡ given
   amounts_are =
       let p = first.packed processors scale rates h.some_processors h.some_scale each fit in
       let slack : processors * scale - sum rates ≡ tasks_in.tree.processors * tasks_in.tree.scale - sum (last_rates tasks_in) =
-      ap₂ (λ a b. a * b - sum rates) (sym p.processors_same) (sym p.scale_same) ∙ ap (λ a. tasks_in.tree.processors * tasks_in.tree.scale - a) (sym servers_total ∙ ap sum (sym servers_are)) in
+      ap₂ (λ a b. a * b - sum rates) (sym p.processors_same) (sym p.scale_same) ∙ ap (λ a. tasks_in.tree.processors * tasks_in.tree.scale - a)
+      (sym servers_total ∙ ap sum (sym servers_are)) in
       ap (λ a. idles scale a (packed scale rates)) slack
       ∙ ap₂ (λ s ss. idles s (tasks_in.tree.processors * tasks_in.tree.scale - sum (last_rates tasks_in)) ss) (sym p.scale_same) (sym servers_are)
 

@@ -26,7 +26,8 @@ open_duals l s h low d = record {
         let o = open_old l s x b in
         let was = d.duals_are x (b, sym (ap is_dual_node o) ∙ i.1) in
         let up = h.homes_are x (b, not_pack (kind_at s x) (sym (ap is_dual_node o) ∙ i.1)) in
-        let P : ℕ → ℕ → Type 0 = λ q a. IsPack (open_pack l s) q × (dual (open_pack l s) q ≡ Some x) × (level (open_pack l s) a ≡ suc (level (open_pack l s) q)) in
+        let P : ℕ → ℕ → Type 0 = λ q a. IsPack (open_pack l s) q × (dual (open_pack l s) q ≡ Some x)
+        × (level (open_pack l s) a ≡ suc (level (open_pack l s) q)) in
         subst₂ P (sym (ap node_primal o)) (sym (ap node_home o)) (
           opened_pack l s h low (primal s x) was.0,
           ap node_dual (open_old l s (primal s x) was.0.0) ∙ was.1,
@@ -48,7 +49,8 @@ open_duals l s h low d = record {
 }
 
 -- a leaf's join leaves the duals
-pub join_duals : (s t : Tree) (p r : ℕ) (leaf : Leaf) → Joins s t p r (kind.Leaf leaf) → IsMade s → Keeps s t → ((x : ℕ) → x < length s.nodes → dual t x ≡ dual s x) → dual s p ≡ None → HasDuals s → HasDuals t
+pub join_duals : (s t : Tree) (p r : ℕ) (leaf : Leaf) → Joins s t p r (kind.Leaf leaf) → IsMade s → Keeps s t → ((x : ℕ) → x < length s.nodes →
+    dual t x ≡ dual s x) → dual s p ≡ None → HasDuals s → HasDuals t
 join_duals s t p r leaf j h k same none d = record {
   duals_are = λ x i. elim (cases_eq x (length s.nodes)) [
     | inl e ↦ absurd (both_ways (is_dual (kind_at t x)) (ap (λ y. is_dual (kind_at t y)) e ∙ ap is_dual_node j.added) i.1)
@@ -57,8 +59,12 @@ join_duals s t p r leaf j h k same none d = record {
         let was = d.duals_are x i_s in
         let up = h.homes_are x (b, not_pack (kind_at s x) i_s.1) in
         let P : ℕ → ℕ → Type 0 = λ q a. IsPack t q × (dual t q ≡ Some x) × (level t a ≡ suc (level t q)) in
-        subst₂ P (sym (k.primals x b)) (sym (j.homes x b))
-        (new_pack s t p r (kind.Leaf leaf) j h (primal s x) was.0, same (primal s x) was.0.0 ∙ was.1, j.levels (home s x) up.0.0 ∙ was.2 ∙ sym (ap suc (j.levels (primal s x) was.0.0))))
+        subst₂ P (sym (k.primals x b)) (sym (j.homes x b)) (
+          new_pack s t p r (kind.Leaf leaf) j h (primal s x) was.0,
+          same (primal s x) was.0.0 ∙ was.1,
+          j.levels (home s x) up.0.0 ∙ was.2
+              ∙ sym (ap suc (j.levels (primal s x) was.0.0)),
+        ))
   ];
   has_dual = λ q y i e. (
       let is = old_pack s t p r (kind.Leaf leaf) j h q i in
@@ -73,7 +79,8 @@ join_duals s t p r leaf j h k same none d = record {
 }
 
 -- a dual's join, which its primal then names
-pub lift_duals : (s t : Tree) (p q r : ℕ) → Joins s t p r (kind.Dual (node_id q)) → IsMade s → Keeps s t → ((x : ℕ) → x < length s.nodes → x ≢ q → dual t x ≡ dual s x) → dual t q ≡ Some (length s.nodes) →
+pub lift_duals : (s t : Tree) (p q r : ℕ) → Joins s t p r (kind.Dual (node_id q)) → IsMade s → Keeps s t → ((x : ℕ) → x < length s.nodes → x ≢ q →
+    dual t x ≡ dual s x) → dual t q ≡ Some (length s.nodes) →
     dual s p ≡ None → dual s q ≡ None → IsPack s q → q ≢ p → r + rate s q ≡ s.scale → rate s q < s.scale → level s p ≡ suc (level s q) → HasDuals s → HasDuals t
 lift_duals s t p q r j h k same named none_p none_q is_q apart sum less up d = record {
   duals_are = λ x i. elim (cases_eq x (length s.nodes)) [
@@ -88,8 +95,12 @@ lift_duals s t p q r j h k same named none_p none_q is_q apart sum less up d = r
         let home_is = h.homes_are x (b, not_pack (kind_at s x) i_s.1) in
         let other : primal s x ≢ q = (λ f. let z : None ≡ Some x = sym none_q ∙ ap (dual s) (sym f) ∙ was.1 in cc) in
         let P : ℕ → ℕ → Type 0 = λ y a. IsPack t y × (dual t y ≡ Some x) × (level t a ≡ suc (level t y)) in
-        subst₂ P (sym (k.primals x b)) (sym (j.homes x b))
-        (new_pack s t p r (kind.Dual (node_id q)) j h (primal s x) was.0, same (primal s x) was.0.0 other ∙ was.1, j.levels (home s x) home_is.0.0 ∙ was.2 ∙ sym (ap suc (j.levels (primal s x) was.0.0))))
+        subst₂ P (sym (k.primals x b)) (sym (j.homes x b)) (
+          new_pack s t p r (kind.Dual (node_id q)) j h (primal s x) was.0,
+          same (primal s x) was.0.0 other ∙ was.1,
+          j.levels (home s x) home_is.0.0 ∙ was.2
+              ∙ sym (ap suc (j.levels (primal s x) was.0.0)),
+        ))
   ];
   has_dual = λ y x i e. (
       let is = old_pack s t p r (kind.Dual (node_id q)) j h y i in

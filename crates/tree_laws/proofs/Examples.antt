@@ -66,7 +66,8 @@ no_tasks = refl
 
 -- nine tasks in microseconds, on four processors: control, sense, fuse, plan, video, log, net, store, health
 nine_tasks : map (packs_told (tree_of_rates 4 1000000 (600000 ∷ 600000 ∷ 600000 ∷ 600000 ∷ 600000 ∷ 200000 ∷ 300000 ∷ 300000 ∷ 200000 ∷ []))) (0 ∷ 1 ∷ 2 ∷ [])
-    ≡ (pack 1000000 (task 0 ∷ task 5 ∷ task 8 ∷ []) ∷ pack 900000 (task 1 ∷ task 6 ∷ []) ∷ pack 900000 (task 2 ∷ task 7 ∷ []) ∷ pack 600000 (task 3 ∷ []) ∷ pack 600000 (task 4 ∷ []) ∷ [])
+    ≡ (pack 1000000 (task 0 ∷ task 5 ∷ task 8 ∷ []) ∷ pack 900000 (task 1 ∷ task 6 ∷ []) ∷ pack 900000 (task 2 ∷ task 7 ∷ []) ∷ pack 600000 (task 3 ∷ [])
+    ∷ pack 600000 (task 4 ∷ []) ∷ [])
     ∷ (pack 1000000 (dual 1 ∷ dual 2 ∷ dual 3 ∷ dual 4 ∷ []) ∷ []) ∷ [] ∷ []
 unfolding tree_of_rates put
 nine_tasks = refl

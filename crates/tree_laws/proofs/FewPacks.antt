@@ -1,5 +1,6 @@
 -- Where first fit needs at most as many packs as there are processors, level 0 has roots alone.
-use Rattle.std.proofs.Common.{◌≡◌, ℕ, zero, suc, ◌+◌, ◌-◌, ◌*◌, ◌/◌, ◌<◌, ◌≤◌, cond, List, [], ◌∷◌, map, length, filter, min, max, sum, None, refl, ap, ap₂, arith, inl, inr, sym, subst, ◌∙◌, mul-le-mul_right}
+use Rattle.std.proofs.Common.{◌≡◌, ℕ, zero, suc, ◌+◌, ◌-◌, ◌*◌, ◌/◌, ◌<◌, ◌≤◌, cond, List, [], ◌∷◌, map, length, filter, min, max, sum, None, refl}
+use Rattle.std.proofs.Common.{ap, ap₂, arith, inl, inr, sym, subst, ◌∙◌, mul-le-mul_right}
 use Rattle.std.proofs.lemmas.Bool.{cases_lt, le-ltb}
 use Rattle.std.proofs.lemmas.List.{length-map, length-replicate}
 use Rattle.std.proofs.Math.Nat.{mul-div_cancel}
@@ -31,8 +32,10 @@ none_lower m [] h = refl
 none_lower m (p ∷ ps) h = ap (λ b. cond b (p ∷ filter (is_lower m) ps) (filter (is_lower m) ps)) (le-ltb (rate m.tree p) m.tree.scale h.0) ∙ none_lower m ps h.1
 
 -- where level 0 has few packs it is the whole tree
-pub one_level : (processors scale : ℕ) (rates : List ℕ) → 0 < processors → 0 < scale → AllByRecursion (λ r. (0 < r) × (r ≤ scale)) rates → total rates ≤ processors * scale →
-    length (first_level processors scale rates).last ≤ processors → (p : ℕ) → IsPack (tree_of_rates processors scale rates) p → level (tree_of_rates processors scale rates) p ≡ 0 → dual (tree_of_rates processors scale rates) p ≡ None
+pub one_level : (processors scale : ℕ) (rates : List ℕ) → 0 < processors → 0 < scale → AllByRecursion (λ r. (0 < r) × (r ≤ scale)) rates →
+    total rates ≤ processors * scale →
+    length (first_level processors scale rates).last ≤ processors → (p : ℕ) → IsPack (tree_of_rates processors scale rates) p →
+    level (tree_of_rates processors scale rates) p ≡ 0 → dual (tree_of_rates processors scale rates) p ≡ None
 unfolding tree_of_rates
 one_level processors scale rates p q each fits few =
     let m : Making = first_level processors scale rates in
@@ -53,8 +56,10 @@ one_level processors scale rates p q each fits few =
     let (k, lk, e) = v.making.last_all x i (omega (arith, low, levels)) in
     sym (ap (dual m.tree) e) ∙ (v.making.last_packs k lk).2))
   where
-    levels_one : (processors scale : ℕ) (rates : List ℕ) (p : 0 < processors) (q : 0 < scale) (each : AllByRecursion (λ r. (0 < r) × (r ≤ scale)) rates) (fits : total rates ≤ processors * scale) → (first_level processors scale rates).tree.levels ≡ 1
-    levels_one processors scale rates p q each fits = (filled_in processors scale rates p q each fits).levels_same ∙ (packed processors scale rates p q each fits).levels_same
+    levels_one : (processors scale : ℕ) (rates : List ℕ) (p : 0 < processors) (q : 0 < scale) (each : AllByRecursion (λ r. (0 < r) × (r ≤ scale)) rates)
+        (fits : total rates ≤ processors * scale) → (first_level processors scale rates).tree.levels ≡ 1
+    levels_one processors scale rates p q each fits = (filled_in processors scale rates p q each fits).levels_same ∙ (packed processors scale rates p q each
+        fits).levels_same
 
 -- ---- the number of packs of level 0
 
@@ -65,7 +70,8 @@ none_long scale slack [] p z =
     let n = length-replicate (slack / scale) scale in omega (arith, q, n)
 none_long scale slack (r ∷ rs) p z = let ih = none_long scale (slack - min (scale - r) slack) rs p (omega arith) in omega (arith, ih)
 
-pub idles_long : (scale slack m : ℕ) (rs : List ℕ) → 0 < scale → AllByRecursion (λ r. r ≤ scale) rs → slack + total rs ≡ m * scale → length (idles scale slack rs) ≤ max m (length rs)
+pub idles_long : (scale slack m : ℕ) (rs : List ℕ) → 0 < scale → AllByRecursion (λ r. r ≤ scale) rs → slack + total rs ≡ m * scale →
+    length (idles scale slack rs) ≤ max m (length rs)
 idles_long scale slack m [] p h e =
     let f : slack ≡ m * scale = omega (arith, e) in
     let q = ap (λ x. x / scale) f ∙ mul-div_cancel m p in
@@ -79,7 +85,8 @@ idles_long scale slack (suc m) (r ∷ rs) p h e =
     ]
 
 -- each pack of level 0 is offered an amount, as is each further one
-pub amounts_long : (processors scale : ℕ) (rates : List ℕ) (p : 0 < processors) (q : 0 < scale) (each : AllByRecursion (λ r. (0 < r) × (r ≤ scale)) rates) (fits : total rates ≤ processors * scale) →
+pub amounts_long : (processors scale : ℕ) (rates : List ℕ) (p : 0 < processors) (q : 0 < scale) (each : AllByRecursion (λ r. (0 < r) × (r ≤ scale)) rates)
+    (fits : total rates ≤ processors * scale) →
     length (amounts processors scale rates p q each fits) ≤ max processors (length (packed_from scale rates []))
 amounts_long processors scale rates p q each fits =
     let m : Making = pack_items (task_items 0 rates) (started processors scale) in
@@ -88,13 +95,15 @@ amounts_long processors scale rates p q each fits =
     let s = same_total (last_rates m) in
     let t = packed_total processors scale rates p q each fits in
     let z = g.scale_same in
-    let n = idles_long m.tree.scale (m.tree.processors * m.tree.scale - sum (last_rates m)) m.tree.processors (last_rates m) (omega (arith, z, q)) (rates_within m g.making) (omega (arith, room, s, t, fits)) in
+    let n = idles_long m.tree.scale (m.tree.processors * m.tree.scale - sum (last_rates m)) m.tree.processors (last_rates m) (omega (arith, z, q))
+    (rates_within m g.making) (omega (arith, room, s, t, fits)) in
     let servers = ap length (g.rates ∙ ap (λ rs. packed_from scale rs []) (task_rates 0 rates)) in
     let same = g.processors_same in
     omega (arith, n, servers, same)
 
 -- level 0 has as many packs as first fit needs, or as there are processors
-pub first_long : (processors scale : ℕ) (rates : List ℕ) → 0 < processors → 0 < scale → AllByRecursion (λ r. (0 < r) × (r ≤ scale)) rates → total rates ≤ processors * scale →
+pub first_long : (processors scale : ℕ) (rates : List ℕ) → 0 < processors → 0 < scale → AllByRecursion (λ r. (0 < r) × (r ≤ scale)) rates →
+    total rates ≤ processors * scale →
     length (first_level processors scale rates).last ≤ max processors (length (packed_from scale rates []))
 first_long processors scale rates p q each fits =
     let few = amounts_long processors scale rates p q each fits in

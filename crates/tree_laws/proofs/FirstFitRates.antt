@@ -1,5 +1,6 @@
 -- First fit over the rates of packs.
-use Rattle.std.proofs.Common.{◌≡◌, ℕ, zero, suc, ◌+◌, ◌<◌, ◌≤◌, Bool, true, false, List, [], ◌∷◌, ◌++◌, length, get_or, set, nat_le, refl, ap, arith, inl, inr, sym, subst}
+use Rattle.std.proofs.Common.{◌≡◌, ℕ, zero, suc, ◌+◌, ◌<◌, ◌≤◌, Bool, true, false, List, [], ◌∷◌, ◌++◌, length, get_or, set, nat_le, refl, ap, arith}
+use Rattle.std.proofs.Common.{inl, inr, sym, subst}
 use Rattle.std.proofs.lemmas.Bool.{cases_Bool, leb-true, leb-false}
 use Rattle.std.specs.List.{AllByRecursion}
 use Rattle.sched_base.specs.FirstFit.{first_with_room, with_item}
@@ -23,7 +24,8 @@ room_is scale r (s ∷ ss) =
       | inr e ↦ (let P : ℕ → Type 0 = λ b. IsRoom scale r (s ∷ ss) b in
           let f = leb-false (s + r) scale e in
           let low = ih.low in
-          subst P (sym (ap (room_case (first_with_room scale r ss)) e)) (record { low = omega (arith, low); full = full f ih; fits = λ l. ih.fits (omega arith) }))
+          subst P (sym (ap (room_case (first_with_room scale r ss)) e))
+          (record { low = omega (arith, low); full = full f ih; fits = λ l. ih.fits (omega arith) }))
     ]
   where
     full : scale < s + r → IsRoom scale r ss (first_with_room scale r ss) → (k : ℕ) → k < suc (first_with_room scale r ss) → scale < get_or (s ∷ ss) k 0 + r
@@ -49,7 +51,8 @@ pub all_more : (scale s t : ℕ) (ss : List ℕ) → s ≤ t → AllByRecursion 
 all_more scale s t [] l a = tt
 all_more scale s t (y ∷ ss) l a = ((let b = a.0 in omega (arith, b, l)), all_more scale s t ss l a.1)
 
-pub all_with_item : (scale s r b : ℕ) (ss : List ℕ) → scale < s + r → AllByRecursion (λ y. scale < s + y) ss → AllByRecursion (λ y. scale < s + y) (with_item r b ss)
+pub all_with_item : (scale s r b : ℕ) (ss : List ℕ) → scale < s + r → AllByRecursion (λ y. scale < s + y) ss → AllByRecursion (λ y. scale < s + y)
+    (with_item r b ss)
 all_with_item scale s r b [] f a = (f, tt)
 all_with_item scale s r zero (y ∷ ss) f a = ((let b = a.0 in omega (arith, b)), a.1)
 all_with_item scale s r (suc b) (y ∷ ss) f a = (a.0, all_with_item scale s r b ss f a.1)
@@ -60,7 +63,8 @@ pairs_with_item scale r zero (s ∷ ss) room h = (all_more scale s (s + r) ss (o
 pairs_with_item scale r (suc b) (s ∷ ss) room h =
     let low = room.low in (
       all_with_item scale s r b ss (room.full 0 (omega arith)) h.0,
-      pairs_with_item scale r b ss (record { low = omega (arith, low); full = λ k l. room.full (suc k) (omega arith); fits = λ l. room.fits (omega arith) }) h.1,
+      pairs_with_item scale r b ss (record { low = omega (arith, low); full = λ k l. room.full (suc k) (omega arith); fits = λ l. room.fits (omega arith) })
+          h.1,
     )
 
 pub pairs_at : (scale : ℕ) (ss : List ℕ) → PairsExceed scale ss → (i j : ℕ) → i < j → j < length ss → scale < get_or ss i 0 + get_or ss j 0

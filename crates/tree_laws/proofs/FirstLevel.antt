@@ -16,7 +16,8 @@ use Rattle.tree_laws.proofs.IdleLeaves.{idles_fit, idles_total, IsFilled, CanFil
 pub rates_within : (m : Making) → IsMaking m [] → AllByRecursion (λ r. r ≤ m.tree.scale) (last_rates m)
 rates_within m h = each m.last (λ i l. h.made.within (last_at m i) (h.last_packs i l).0)
   where
-    each : (ps : List ℕ) → ((i : ℕ) → i < length ps → rate m.tree (get_or ps i 0) ≤ m.tree.scale) → AllByRecursion (λ r. r ≤ m.tree.scale) (map (rate m.tree) ps)
+    each : (ps : List ℕ) → ((i : ℕ) → i < length ps → rate m.tree (get_or ps i 0) ≤ m.tree.scale) → AllByRecursion (λ r. r ≤ m.tree.scale)
+        (map (rate m.tree) ps)
     each [] f = tt
     each (p ∷ ps) f = (f 0 (omega arith), each ps (λ i l. f (suc i) (omega arith)))
 
@@ -39,7 +40,8 @@ somes scale (r ∷ rs) h = (h.0.0, somes scale rs h.1)
 pub same_total : (rs : List ℕ) → sum rs ≡ total rs
 same_total rs = sym (is_sum_by total (λ x. x) refl (λ x xs. refl) rs)
 
-module _ (processors scale : ℕ) (rates : List ℕ) (p : 0 < processors) (q : 0 < scale) (each : AllByRecursion (λ r. (0 < r) × (r ≤ scale)) rates) (fits : total rates ≤ processors * scale) where
+module _ (processors scale : ℕ) (rates : List ℕ) (p : 0 < processors) (q : 0 < scale) (each : AllByRecursion (λ r. (0 < r) × (r ≤ scale)) rates)
+    (fits : total rates ≤ processors * scale) where
   abbrev pub empty : Making
   empty = started processors scale
 
@@ -72,7 +74,8 @@ module _ (processors scale : ℕ) (rates : List ℕ) (p : 0 < processors) (q : 0
   tasks_in = pack_items (task_items 0 rates) empty
 
   pub packed_some : AllSome (last_rates tasks_in)
-  packed_some = subst AllSome (sym (packed.rates ∙ ap (λ rs. packed_from scale rs []) (task_rates 0 rates))) (some_packed scale rates [] (somes scale rates each) tt)
+  packed_some = subst AllSome (sym (packed.rates ∙ ap (λ rs. packed_from scale rs []) (task_rates 0 rates))) (some_packed scale rates []
+      (somes scale rates each) tt)
 
   pub packed_total : total (last_rates tasks_in) ≡ total rates
   packed_total = let a = ap total (packed.rates ∙ ap (λ rs. packed_from scale rs []) (task_rates 0 rates)) ∙ total_packed scale rates [] in omega (arith, a)
@@ -88,7 +91,8 @@ module _ (processors scale : ℕ) (rates : List ℕ) (p : 0 < processors) (q : 0
     positive = packed_some;
     one_level = packed.levels_same;
     scaled = (let s = packed.scale_same in omega (arith, s, q));
-    fits = idles_fit tasks_in.tree.scale (tasks_in.tree.processors * tasks_in.tree.scale - sum (last_rates tasks_in)) (last_rates tasks_in) (rates_within tasks_in packed.making);
+    fits = idles_fit tasks_in.tree.scale (tasks_in.tree.processors * tasks_in.tree.scale - sum (last_rates tasks_in)) (last_rates tasks_in)
+        (rates_within tasks_in packed.making);
     low = omega arith;
   }
 
@@ -101,7 +105,8 @@ module _ (processors scale : ℕ) (rates : List ℕ) (p : 0 < processors) (q : 0
       let s = same_total (last_rates tasks_in) in
       let t = packed_total in
       let z = packed.scale_same in
-      idles_total tasks_in.tree.scale (tasks_in.tree.processors * tasks_in.tree.scale - sum (last_rates tasks_in)) tasks_in.tree.processors (last_rates tasks_in) (omega (arith, z, q)) (rates_within tasks_in packed.making)
+      idles_total tasks_in.tree.scale (tasks_in.tree.processors * tasks_in.tree.scale - sum (last_rates tasks_in)) tasks_in.tree.processors
+      (last_rates tasks_in) (omega (arith, z, q)) (rates_within tasks_in packed.making)
       (omega (arith, room, s, t, fits)) ∙ omega (arith, room, s, t)
 
   pub first_is : IsLevel (first_level processors scale rates)
@@ -111,12 +116,24 @@ module _ (processors scale : ℕ) (rates : List ℕ) (p : 0 < processors) (q : 0
     filled = filled_in.filled;
     pairs = filled_in.pairs;
     positive = filled_in.positive;
-    whole = (processors, (let a = filled_in.sums in let b = packed_total in let c = amounts_total in let s = ap (λ x. processors * x) (filled_in.scale_same ∙ packed.scale_same) in omega (arith, a, b, c, s, fits)));
+    whole = (
+      processors,
+      (let a = filled_in.sums in let b = packed_total in let c = amounts_total in let s = ap (λ x. processors * x) (filled_in.scale_same
+          ∙ packed.scale_same) in omega (arith, a, b, c, s, fits)),
+    );
     some = (let a = filled_in.sums in let b = packed_total in let c = amounts_total in let m : 1 * scale ≤ processors * scale = mul-le-mul_right scale p in
         let long = length-map (first_level processors scale rates).last (rate (first_level processors scale rates).tree) in
         let t = not_empty (last_rates (first_level processors scale rates)) (omega (arith, a, b, c, m, q, fits)) in omega (arith, t, long));
     leaves = (let a = filled_in.sum in let b = packed.sum in let c = amounts_total in let d = task_parts 0 rates in
-        let s = ap₂ (λ x y. x * y) (filled_in.processors_same ∙ packed.processors_same) (filled_in.scale_same ∙ packed.scale_same) in omega (arith, a, b, c, d, s, fits));
+        let s = ap₂ (λ x y. x * y) (filled_in.processors_same ∙ packed.processors_same) (filled_in.scale_same ∙ packed.scale_same) in omega (
+          arith,
+          a,
+          b,
+          c,
+          d,
+          s,
+          fits,
+        ));
   }
     where
       not_empty : (rs : List ℕ) → 0 < total rs → 0 < length rs

@@ -1,5 +1,6 @@
 -- Idle leaves at the ends of the packs of level 0, and packs of their own.
-use Rattle.std.proofs.Common.{◌≡◌, ℕ, zero, suc, ◌+◌, ◌-◌, ◌*◌, ◌/◌, ◌<◌, ◌≤◌, List, [], ◌∷◌, ◌++◌, length, get_or, drop, min, max, replicate, refl, ap, arith, inl, inr, sym, subst, subst₂, ◌∙◌}
+use Rattle.std.proofs.Common.{◌≡◌, ℕ, zero, suc, ◌+◌, ◌-◌, ◌*◌, ◌/◌, ◌<◌, ◌≤◌, List, [], ◌∷◌, ◌++◌, length, get_or, drop, min, max, replicate, refl}
+use Rattle.std.proofs.Common.{ap, arith, inl, inr, sym, subst, subst₂, ◌∙◌}
 use Rattle.std.proofs.lemmas.Bool.{cases_eq, cases_lt}
 use Rattle.std.proofs.Math.Nat.{mul-div_cancel}
 use Rattle.std.specs.List.{AllByRecursion}
@@ -36,10 +37,12 @@ total_replicate zero scale = omega arith
 total_replicate (suc n) scale = let ih = total_replicate n scale in omega (arith, ih)
 
 pub idles_none : (scale slack : ℕ) (rs : List ℕ) → 0 < scale → slack ≡ 0 → total (idles scale slack rs) ≡ 0
-idles_none scale slack [] p z = let z' : slack ≡ 0 * scale = omega (arith, z) in let e = ap (λ x. x / scale) z' ∙ mul-div_cancel 0 p in let f = ap (λ n. total (replicate n scale)) e in omega (arith, f)
+idles_none scale slack [] p z = let z' : slack ≡ 0 * scale = omega (arith, z) in let e = ap (λ x. x / scale) z' ∙ mul-div_cancel 0 p in
+    let f = ap (λ n. total (replicate n scale)) e in omega (arith, f)
 idles_none scale slack (r ∷ rs) p z = let ih = idles_none scale (slack - min (scale - r) slack) rs p (omega arith) in omega (arith, ih, z)
 
-pub idles_total : (scale slack m : ℕ) (rs : List ℕ) → 0 < scale → AllByRecursion (λ r. r ≤ scale) rs → slack + total rs ≡ m * scale → total (idles scale slack rs) ≡ slack
+pub idles_total : (scale slack m : ℕ) (rs : List ℕ) → 0 < scale → AllByRecursion (λ r. r ≤ scale) rs → slack + total rs ≡ m * scale →
+    total (idles scale slack rs) ≡ slack
 idles_total scale slack m [] p h e =
     let f : slack ≡ m * scale = omega (arith, e) in
     let q = ap (λ x. x / scale) f ∙ mul-div_cancel m p in
@@ -48,7 +51,8 @@ idles_total scale slack m (r ∷ rs) p h e =
     let w = h.0 in
     elim (cases_lt slack (scale - r)) [
       | inl l ↦ (let z = idles_none scale (slack - min (scale - r) slack) rs p (omega (arith, l)) in omega (arith, z, l))
-      | inr ge ↦ (let some : 0 < m = elim (cases_eq m 0) [ inl z ↦ absurd (let f = ap (λ x. x * scale) z in omega (arith, e, f, ge, p, w)) | inr nz ↦ omega arith ] in
+      | inr ge ↦ (let some : 0 < m = elim (cases_eq m 0)
+          [ inl z ↦ absurd (let f = ap (λ x. x * scale) z in omega (arith, e, f, ge, p, w)) | inr nz ↦ omega arith ] in
           let (k, is) = before m some in
           let f = ap (λ x. x * scale) is in
           let ih = idles_total scale (slack - min (scale - r) slack) k rs p h.1 (omega (arith, e, f, ge, w)) in omega (arith, ih, ge))
@@ -59,12 +63,14 @@ idles_total scale slack m (r ∷ rs) p h e =
     before (suc k) l = (k, refl)
 
 -- pairs exceed still where a pack gets more, or a full one is new
-pub pairs_raised : (scale a b : ℕ) (ss : List ℕ) → PairsExceed scale ss → AllSome ss → Fits scale (a ∷ []) (drop b ss) → b ≤ length ss → PairsExceed scale (with_item a b ss)
+pub pairs_raised : (scale a b : ℕ) (ss : List ℕ) → PairsExceed scale ss → AllSome ss → Fits scale (a ∷ []) (drop b ss) → b ≤ length ss →
+    PairsExceed scale (with_item a b ss)
 pairs_raised scale a b [] h some f l = (tt, tt)
 pairs_raised scale a zero (s ∷ ss) h some f l = (all_more scale s (s + a) ss (omega arith) h.0, h.1)
 pairs_raised scale a (suc b) (s ∷ ss) h some f l = (above s b ss h.0 some.0 f (omega arith), pairs_raised scale a b ss h.1 some.1 f (omega arith))
   where
-    above : (s b : ℕ) (ss : List ℕ) → AllByRecursion (λ y. scale < s + y) ss → 0 < s → Fits scale (a ∷ []) (drop b ss) → b ≤ length ss → AllByRecursion (λ y. scale < s + y) (with_item a b ss)
+    above : (s b : ℕ) (ss : List ℕ) → AllByRecursion (λ y. scale < s + y) ss → 0 < s → Fits scale (a ∷ []) (drop b ss) → b ≤ length ss →
+        AllByRecursion (λ y. scale < s + y) (with_item a b ss)
     above s zero [] h p f l = ((let e = f.0 in omega (arith, e, p)), tt)
     above s (suc b) [] h p f l = absurd (omega arith)
     above s zero (y ∷ ss) h p f l = ((let e = h.0 in omega (arith, e)), h.1)
@@ -177,16 +183,30 @@ module _ (m : Making) (b a : ℕ) (amounts : List ℕ) (h : CanFill m b (suc a �
       record {
         making = p.making;
         filled = p.filled;
-        pairs = subst₂ (λ s xs. PairsExceed s xs) (sym p.scale_same) (sym p.rates) (pairs_raised m.tree.scale (suc a) b (last_rates m) h.pairs h.positive first_fits h.low);
+        pairs = subst₂ (λ s xs. PairsExceed s xs) (sym p.scale_same) (sym p.rates) (pairs_raised m.tree.scale (suc a) b (last_rates m) h.pairs h.positive
+            first_fits h.low);
         positive = subst AllSome (sym p.rates) (some_with_item (suc a) b (last_rates m) (omega arith) h.positive);
         one_level = p.levels_same ∙ h.one_level;
         scaled = (let same = p.scale_same in let some = h.scaled in omega (arith, same, some));
-        fits = subst₂ (λ s xs. Fits s amounts xs) (sym p.scale_same) (sym (drop_added (suc a) b (last_rates m) h.low) ∙ sym (ap (drop (suc b)) p.rates)) (fits_next m.tree.scale (suc a) amounts b (last_rates m) h.fits);
+        fits = subst₂ (λ s xs. Fits s amounts xs) (sym p.scale_same) (sym (drop_added (suc a) b (last_rates m) h.low) ∙ sym (ap (drop (suc b)) p.rates))
+            (fits_next m.tree.scale (suc a) amounts b (last_rates m) h.fits);
         low = (let e = ap length p.rates in let g = longer (suc a) b (last_rates m) h.low in omega (arith, e, g));
       }
 
 pub idles_put : (amounts : List ℕ) (b k : ℕ) (m : Making) → CanFill m b amounts → IsFilled m (put_idles b k amounts m) b k amounts
-idles_put [] b k m h = record { making = h.making; filled = h.filled; pairs = h.pairs; positive = h.positive; scale_same = refl; processors_same = refl; levels_same = refl; packs = omega arith; sum = omega arith; sums = omega arith; leaves = sym (append-nil (entries m.tree.nodes)) }
+idles_put [] b k m h = record {
+  making = h.making;
+  filled = h.filled;
+  pairs = h.pairs;
+  positive = h.positive;
+  scale_same = refl;
+  processors_same = refl;
+  levels_same = refl;
+  packs = omega arith;
+  sum = omega arith;
+  sums = omega arith;
+  leaves = sym (append-nil (entries m.tree.nodes));
+}
 idles_put (zero ∷ amounts) b k m h =
     let rest = idles_put amounts (suc b) k m (fill_none m b amounts h) in
     record {
@@ -216,5 +236,6 @@ idles_put (suc a ∷ amounts) b k m h =
       packs = (let x = rest.packs in let y = ap length p.rates in let z = at_most (suc a) b (last_rates m) in omega (arith, x, y, z));
       sum = (let x = rest.sum in let y = p.sum in omega (arith, x, y));
       sums = (let x = rest.sums in let y = ap total p.rates ∙ total_with_item (suc a) b (last_rates m) in omega (arith, x, y));
-      leaves = rest.leaves ∙ ap (λ ys. ys ++ idle_entries (suc k) amounts) p.leaves ∙ append_assoc (entries m.tree.nodes) (kind_entry (kind.Leaf (Idle k)) (suc a)) (idle_entries (suc k) amounts);
+      leaves = rest.leaves ∙ ap (λ ys. ys ++ idle_entries (suc k) amounts) p.leaves ∙ append_assoc (entries m.tree.nodes) (kind_entry (kind.Leaf (Idle k))
+          (suc a)) (idle_entries (suc k) amounts);
     }

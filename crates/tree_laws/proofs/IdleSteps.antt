@@ -25,11 +25,14 @@ pub record IsFilling (whole : Making) (tasks b k : ℕ) (amounts : List ℕ) (m 
   pub few : k ≤ b
   pub rest : put_idles b k amounts m ≡ whole
 
-pub idle_skip : (whole m : Making) (tasks b k amount : ℕ) (amounts : List ℕ) → IsFilling whole tasks b k (amount ∷ amounts) m → amount ≡ 0 → IsFilling whole tasks (suc b) k amounts m
-idle_skip whole m tasks b k zero amounts h e = record { can = fill_none m b amounts h.can; counted = h.counted; few = (let few = h.few in omega (arith, few)); rest = h.rest }
+pub idle_skip : (whole m : Making) (tasks b k amount : ℕ) (amounts : List ℕ) → IsFilling whole tasks b k (amount ∷ amounts) m → amount ≡ 0 →
+    IsFilling whole tasks (suc b) k amounts m
+idle_skip whole m tasks b k zero amounts h e =
+    record { can = fill_none m b amounts h.can; counted = h.counted; few = (let few = h.few in omega (arith, few)); rest = h.rest }
 idle_skip whole m tasks b k (suc amount) amounts h e = absurd (omega (arith, e))
 
-pub idle_may_come : (whole m : Making) (tasks b k amount : ℕ) (amounts : List ℕ) → IsFilling whole tasks b k (amount ∷ amounts) m → 0 < amount → MayCome m amount b
+pub idle_may_come : (whole m : Making) (tasks b k amount : ℕ) (amounts : List ℕ) → IsFilling whole tasks b k (amount ∷ amounts) m → 0 < amount →
+    MayCome m amount b
 idle_may_come whole m tasks b k zero amounts h some = absurd (omega arith)
 idle_may_come whole m tasks b k (suc a) amounts h some =
     let room = fill_room m b a amounts h.can k in
@@ -76,13 +79,15 @@ module _ (processors scale : ℕ) (rates : List ℕ) (h : RatesFit processors sc
 
   pub asked_few : length asked ≤ max processors (length (packed scale rates))
   unfolding packed
-  asked_few = (let a = ap length asked_are in let b = amounts_long processors scale rates h.some_processors h.some_scale (each processors scale rates h) (fit processors scale rates h) in omega (arith, a, b))
+  asked_few = (let a = ap length asked_are in let b = amounts_long processors scale rates h.some_processors h.some_scale (each processors scale rates h)
+      (fit processors scale rates h) in omega (arith, a, b))
 
   pub idle_start : IsFilling (first_level processors scale rates) (length rates) 0 0 asked all_tasks
   idle_start =
       let P : List ℕ → Type 0 = λ xs. CanFill all_tasks 0 xs in
       record {
-        can = subst P (sym asked_are) (first.can_fill processors scale rates h.some_processors h.some_scale (each processors scale rates h) (fit processors scale rates h));
+        can = subst P (sym asked_are) (first.can_fill processors scale rates h.some_processors h.some_scale (each processors scale rates h)
+            (fit processors scale rates h));
         counted = (let n = tasks_counted processors scale rates h (length rates) (omega arith) in
             let whole = ap (λ rs. leaf_count (pack_items (task_items 0 rs) (started processors scale)).tree) (take-length rates) in
             omega (arith, n, whole));

@@ -1,5 +1,6 @@
 -- A level with all its packs, and how the next one begins.
-use Rattle.std.proofs.Common.{◌≡◌, ℕ, zero, suc, ◌+◌, ◌*◌, ◌<◌, ◌≤◌, ◌≢◌, Bool, true, cond, List, [], ◌∷◌, length, get_or, None, refl, ap, arith, inl, inr, sym, subst, ◌∙◌, nat_lt, filter}
+use Rattle.std.proofs.Common.{◌≡◌, ℕ, zero, suc, ◌+◌, ◌*◌, ◌<◌, ◌≤◌, ◌≢◌, Bool, true, cond, List, [], ◌∷◌, length, get_or, None, refl, ap, arith, inl}
+use Rattle.std.proofs.Common.{inr, sym, subst, ◌∙◌, nat_lt, filter}
 use Rattle.std.proofs.lemmas.Bool.{cases_eq, cases_lt, cases_Bool, ltb-true, lt-ltb}
 use Rattle.std.proofs.lemmas.List.{length-map, get_or-map}
 use Rattle.std.specs.List.{AllByRecursion}
@@ -11,17 +12,22 @@ use Rattle.tree_laws.proofs.FirstFitRates.{room_is, PairsExceed, pairs_at, with_
 use Rattle.tree_laws.proofs.PutMember.{Filled, leaf_sum}
 
 -- what a filter keeps
-pub kept_in : (f : ℕ → Bool) (ps : List ℕ) (i : ℕ) → i < length (filter f ps) → (j : ℕ) × (j < length ps) × (get_or ps j 0 ≡ get_or (filter f ps) i 0) × (f (get_or (filter f ps) i 0) ≡ true)
+pub kept_in : (f : ℕ → Bool) (ps : List ℕ) (i : ℕ) → i < length (filter f ps) → (j : ℕ) × (j < length ps) × (get_or ps j 0 ≡ get_or (filter f ps) i 0)
+    × (f (get_or (filter f ps) i 0) ≡ true)
 kept_in f [] i l = absurd (omega arith)
 kept_in f (p ∷ ps) i l =
     elim (cases_Bool (f p)) [
-      | inl on ↦ (let P : List ℕ → Type 0 = λ xs. i < length xs → (j : ℕ) × (j < length (p ∷ ps)) × (get_or (p ∷ ps) j 0 ≡ get_or xs i 0) × (f (get_or xs i 0) ≡ true) in
+      | inl on ↦ (let P : List ℕ → Type 0 = λ xs. i < length xs → (j : ℕ) × (j < length (p ∷ ps)) × (get_or (p ∷ ps) j 0 ≡ get_or xs i 0)
+          × (f (get_or xs i 0) ≡ true) in
           subst P (sym (ap (λ b. cond b (p ∷ filter f ps) (filter f ps)) on)) (at (λ k m. kept_in f ps k m) on i) l)
-      | inr off ↦ (let P : List ℕ → Type 0 = λ xs. i < length xs → (j : ℕ) × (j < length (p ∷ ps)) × (get_or (p ∷ ps) j 0 ≡ get_or xs i 0) × (f (get_or xs i 0) ≡ true) in
+      | inr off ↦ (let P : List ℕ → Type 0 = λ xs. i < length xs → (j : ℕ) × (j < length (p ∷ ps)) × (get_or (p ∷ ps) j 0 ≡ get_or xs i 0)
+          × (f (get_or xs i 0) ≡ true) in
           subst P (sym (ap (λ b. cond b (p ∷ filter f ps) (filter f ps)) off)) (λ m. (let (j, lj, e, ok) = kept_in f ps i m in (suc j, omega arith, e, ok))) l)
     ]
   where
-    at : ((i : ℕ) → i < length (filter f ps) → (j : ℕ) × (j < length ps) × (get_or ps j 0 ≡ get_or (filter f ps) i 0) × (f (get_or (filter f ps) i 0) ≡ true)) → f p ≡ true → (i : ℕ) → i < length (p ∷ filter f ps) → (j : ℕ) × (j < length (p ∷ ps)) × (get_or (p ∷ ps) j 0 ≡ get_or (p ∷ filter f ps) i 0) × (f (get_or (p ∷ filter f ps) i 0) ≡ true)
+    at : ((i : ℕ) → i < length (filter f ps) → (j : ℕ) × (j < length ps) × (get_or ps j 0 ≡ get_or (filter f ps) i 0)
+        × (f (get_or (filter f ps) i 0) ≡ true)) → f p ≡ true → (i : ℕ) → i < length (p ∷ filter f ps) → (j : ℕ) × (j < length (p ∷ ps))
+        × (get_or (p ∷ ps) j 0 ≡ get_or (p ∷ filter f ps) i 0) × (f (get_or (p ∷ filter f ps) i 0) ≡ true)
     at rec on zero m = (0, omega arith, refl, on)
     at rec on (suc i) m = (let (j, lj, e, ok) = rec i (omega arith) in (suc j, omega arith, e, ok))
 
@@ -33,7 +39,11 @@ kept_from f (p ∷ ps) zero l on =
 kept_from f (p ∷ ps) (suc j) l on =
     let (i, li, e) = kept_from f ps j (omega arith) on in
     elim (cases_Bool (f p)) [
-      | inl y ↦ (let P : List ℕ → Type 0 = λ xs. Among (get_or ps j 0) xs in subst P (sym (ap (λ b. cond b (p ∷ filter f ps) (filter f ps)) y)) (suc i, omega arith, e))
+      | inl y ↦ (let P : List ℕ → Type 0 = λ xs. Among (get_or ps j 0) xs in subst P (sym (ap (λ b. cond b (p ∷ filter f ps) (filter f ps)) y)) (
+        suc i,
+        omega arith,
+        e,
+      ))
       | inr n ↦ (let P : List ℕ → Type 0 = λ xs. Among (get_or ps j 0) xs in subst P (sym (ap (λ b. cond b (p ∷ filter f ps) (filter f ps)) n)) (i, li, e))
     ]
 
@@ -79,7 +89,8 @@ pub record IsLevel (m : Making) : Type 0 where
 abbrev pub is_lower : Making → ℕ → Bool
 is_lower m p = nat_lt (rate m.tree p) m.tree.scale
 
-pub pair_last : (m : Making) → IsMaking m [] → PairsExceed m.tree.scale (last_rates m) → (p q : ℕ) → IsPack m.tree p → IsPack m.tree q → p ≢ q → suc (level m.tree p) ≡ m.tree.levels → suc (level m.tree q) ≡ m.tree.levels → m.tree.scale < rate m.tree p + rate m.tree q
+pub pair_last : (m : Making) → IsMaking m [] → PairsExceed m.tree.scale (last_rates m) → (p q : ℕ) → IsPack m.tree p → IsPack m.tree q → p ≢ q →
+    suc (level m.tree p) ≡ m.tree.levels → suc (level m.tree q) ≡ m.tree.levels → m.tree.scale < rate m.tree p + rate m.tree q
 pair_last m h pairs p q ip iq ne top_p top_q =
     let (i, li, ei) = h.last_all p ip top_p in
     let (j, lj, ej) = h.last_all q iq top_q in
@@ -129,8 +140,10 @@ begun m v = record {
     | inr ge ↦ (let a = v.making.last_packs 0 v.some in (last_at m 0, a.0, (let z = a.1 in omega (arith, z, ge, lo))))
   ];
   waiting = λ i l. (let (j, lj, e, ok) = kept_in (is_lower m) m.last i l in
-      let P : ℕ → Type 0 = λ x. rate m.tree x < m.tree.scale → IsPack m.tree x × (suc (suc (level m.tree x)) ≡ suc m.tree.levels) × (dual m.tree x ≡ None) × (rate m.tree x < m.tree.scale) in
-      subst P e (λ less. (let a = v.making.last_packs j lj in (a.0, ap suc a.1, a.2, less))) (ltb-true (rate m.tree (get_or (lower_packs m) i 0)) m.tree.scale ok));
+      let P : ℕ → Type 0 = λ x. rate m.tree x < m.tree.scale → IsPack m.tree x × (suc (suc (level m.tree x)) ≡ suc m.tree.levels) × (dual m.tree x ≡ None)
+      × (rate m.tree x < m.tree.scale) in
+      subst P e (λ less. (let a = v.making.last_packs j lj in (a.0, ap suc a.1, a.2, less))) (ltb-true (rate m.tree (get_or (lower_packs m) i 0))
+      m.tree.scale ok));
   apart = kept_apart (is_lower m) m.last v.making.last_apart;
 }
 
@@ -154,7 +167,8 @@ some_with_item r (suc b) (s ∷ ss) h a = (a.0, some_with_item r b ss h a.1)
 
 pub some_packed : (scale : ℕ) (rs ss : List ℕ) → AllSome rs → AllSome ss → AllSome (packed_from scale rs ss)
 some_packed scale [] ss h a = a
-some_packed scale (r ∷ rs) ss h a = some_packed scale rs (with_item r (first_with_room scale r ss) ss) h.1 (some_with_item r (first_with_room scale r ss) ss h.0 a)
+some_packed scale (r ∷ rs) ss h a = some_packed scale rs (with_item r (first_with_room scale r ss) ss) h.1 (some_with_item r (first_with_room scale r ss) ss
+    h.0 a)
 
 pub length_with_item : (r b : ℕ) (ss : List ℕ) → length (with_item r b ss) ≤ suc (length ss)
 length_with_item r b [] = omega arith

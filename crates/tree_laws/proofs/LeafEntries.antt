@@ -1,5 +1,6 @@
 -- The leaves of a tree, in the order of their numbers.
-use Rattle.std.proofs.Common.{◌≡◌, ℕ, zero, suc, ◌+◌, ◌<◌, true, false, List, [], ◌∷◌, ◌++◌, length, get_or, set, take, refl, ap, arith, ◌⊎◌, inl, inr, sym, ap₂, ◌∙◌}
+use Rattle.std.proofs.Common.{◌≡◌, ℕ, zero, suc, ◌+◌, ◌<◌, true, false, List, [], ◌∷◌, ◌++◌, length, get_or, set, take, refl, ap, arith, ◌⊎◌, inl}
+use Rattle.std.proofs.Common.{inr, sym, ap₂, ◌∙◌}
 use Rattle.std.proofs.lemmas.Bool.{both_ways}
 use Rattle.std.proofs.lemmas.List.{append_assoc, append-nil, length-append}
 use Rattle.sched_base.specs.declared.rows.Leaf.{Leaf}
@@ -51,7 +52,8 @@ entries_open l s = entries-append s.nodes (pack_node l ∷ []) ∙ append-nil (e
 pub entries_join : (c : Kind) (r p : ℕ) (s : Tree) → IsPack s p → entries (join c r p s).nodes ≡ entries s.nodes ++ kind_entry c r
 entries_join c r p s i =
     entries-append (set s.nodes p (joined (node s p) (length s.nodes) r)) _
-    ∙ ap₂ (λ xs ys. xs ++ ys) (entries-set s.nodes p (joined (node s p) (length s.nodes) r) no_node (pack_entry (node s p).kind ((node s p).rate + r) i.1) (pack_entry (node s p).kind (node s p).rate i.1))
+    ∙ ap₂ (λ xs ys. xs ++ ys) (entries-set s.nodes p (joined (node s p) (length s.nodes) r) no_node (pack_entry (node s p).kind ((node s p).rate + r) i.1)
+    (pack_entry (node s p).kind (node s p).rate i.1))
     (append-nil (kind_entry c r))
 
 -- the primal of a new dual is a pack
@@ -68,7 +70,8 @@ entries_any (kind.Dual id) r p s i from =
     let u : Tree = join (kind.Dual id) r p s in
     let j = join_joins (kind.Dual id) r p s i refl in
     let is = j.packs q from.0 ∙ from.1 in
-    entries-set u.nodes q (with_dual (node u q) (length s.nodes)) no_node (pack_entry (node u q).kind (node u q).rate is) (pack_entry (node u q).kind (node u q).rate is) ∙ entries_join (kind.Dual id) r p s i
+    entries-set u.nodes q (with_dual (node u q) (length s.nodes)) no_node (pack_entry (node u q).kind (node u q).rate is) (pack_entry (node u q).kind
+    (node u q).rate is) ∙ entries_join (kind.Dual id) r p s i
 
 -- ---- leaves by number
 
@@ -84,7 +87,8 @@ pub entry_at : (ns : List Node) (x : ℕ) → x < length ns → is_leaf (get_or 
 entry_at [] x l e = absurd (omega arith)
 entry_at (n ∷ ns) zero l e = here n.kind n.rate e
   where
-    here : (k : Kind) (rate : ℕ) → is_leaf k ≡ true → (i : ℕ) × (i < length (kind_entry k rate ++ entries ns)) × (get_or (kind_entry k rate ++ entries ns) i no_entry ≡ entry_by k rate) × (i ≡ 0)
+    here : (k : Kind) (rate : ℕ) → is_leaf k ≡ true → (i : ℕ) × (i < length (kind_entry k rate ++ entries ns)) × (get_or (kind_entry k rate ++ entries ns) i
+        no_entry ≡ entry_by k rate) × (i ≡ 0)
     here (kind.Leaf leaf) rate e = (0, omega arith, refl, refl)
     here (kind.Pack level) rate e = absurd (both_ways false refl e)
     here (kind.Dual primal) rate e = absurd (both_ways false refl e)
@@ -93,13 +97,15 @@ entry_at (n ∷ ns) (suc x) l e =
     later n.kind n.rate i li is at
   where
     later : (k : Kind) (rate i : ℕ) → i < length (entries ns) → get_or (entries ns) i no_entry ≡ entry_in ns x → i ≡ length (entries (take x ns)) →
-        (j : ℕ) × (j < length (kind_entry k rate ++ entries ns)) × (get_or (kind_entry k rate ++ entries ns) j no_entry ≡ entry_in ns x) × (j ≡ length (kind_entry k rate ++ entries (take x ns)))
+        (j : ℕ) × (j < length (kind_entry k rate ++ entries ns)) × (get_or (kind_entry k rate ++ entries ns) j no_entry ≡ entry_in ns x)
+        × (j ≡ length (kind_entry k rate ++ entries (take x ns)))
     later (kind.Leaf leaf) rate i li is at = (suc i, omega arith, is, ap suc at)
     later (kind.Pack level) rate i li is at = (i, li, is, at)
     later (kind.Dual primal) rate i li is at = (i, li, is, at)
 
 -- an earlier leaf has an earlier entry
-pub entries_before : (ns : List Node) (x y : ℕ) → x < y → y < length ns → is_leaf (get_or ns x no_node).kind ≡ true → length (entries (take x ns)) < length (entries (take y ns))
+pub entries_before : (ns : List Node) (x y : ℕ) → x < y → y < length ns → is_leaf (get_or ns x no_node).kind ≡ true → length (entries (take x ns)) < length
+    (entries (take y ns))
 entries_before [] x y l m e = absurd (omega arith)
 entries_before (n ∷ ns) x zero l m e = absurd (omega arith)
 entries_before (n ∷ ns) zero (suc y) l m e = first n.kind n.rate e
@@ -123,7 +129,8 @@ leaf_from (n ∷ ns) i l =
     ]
   where
     split : (k : Kind) (rate i : ℕ) → i < length (kind_entry k rate ++ entries ns) →
-        ((is_leaf k ≡ true) × (get_or (kind_entry k rate ++ entries ns) i no_entry ≡ entry_by k rate)) ⊎ ((j : ℕ) × (j < length (entries ns)) × (get_or (kind_entry k rate ++ entries ns) i no_entry ≡ get_or (entries ns) j no_entry))
+        ((is_leaf k ≡ true) × (get_or (kind_entry k rate ++ entries ns) i no_entry ≡ entry_by k rate)) ⊎ ((j : ℕ) × (j < length (entries ns))
+        × (get_or (kind_entry k rate ++ entries ns) i no_entry ≡ get_or (entries ns) j no_entry))
     split (kind.Leaf leaf) rate zero l = inl (refl, refl)
     split (kind.Leaf leaf) rate (suc i) l = inr (i, omega arith, refl)
     split (kind.Pack level) rate i l = inr (i, l, refl)

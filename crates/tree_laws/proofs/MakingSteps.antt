@@ -7,7 +7,8 @@ use Rattle.run_tree.specs.declared.kinds.Kind.{Kind}
 use Rattle.run_tree.specs.declared.kinds.Kind.TheVariants as kind
 use Rattle.run_tree.specs.Tree.{Node, Tree, node, rate, dual, level, no_node, IsPack}
 use Rattle.run_tree.specs.Making.{joined, with_dual, join, join_member, mark_dual, Making, opened}
-use Rattle.tree_laws.proofs.NodeParts.{node_rate, node_home, node_place, node_members, node_dual, node_level, node_primal, is_pack_node, is_leaf_node, is_dual_node, node_id}
+use Rattle.tree_laws.proofs.NodeParts.{node_rate, node_home, node_place, node_members, node_dual, node_level, node_primal, is_pack_node, is_leaf_node}
+use Rattle.tree_laws.proofs.NodeParts.{is_dual_node, node_id}
 use Rattle.tree_laws.proofs.NewMember.{Joins, IsMade, old_pack, new_pack}
 use Rattle.tree_laws.proofs.NewPack.{open_pack, open_old, open_new, open_long, opened_below, opened_pack, join_joins}
 use Rattle.tree_laws.proofs.NewPack as opens
@@ -26,12 +27,15 @@ pub record Grows (s t : Tree) (p r : ℕ) (c : Kind) : Type 0 where
   pub dual_same : (x : ℕ) → x < length s.nodes → (Names c x → ⊥) → dual t x ≡ dual s x
   pub dual_named : (x : ℕ) → x < length s.nodes → Names c x → dual t x ≡ Some (length s.nodes)
 
-pub join_over : {A : Type 0} (f : Node → A) (c : Kind) (r p : ℕ) (s : Tree) → IsPack s p → f (joined (node s p) (length s.nodes) r) ≡ f (node s p) → (x : ℕ) → x < length s.nodes → f (node (join c r p s) x) ≡ f (node s x)
+pub join_over : {A : Type 0} (f : Node → A) (c : Kind) (r p : ℕ) (s : Tree) → IsPack s p → f (joined (node s p) (length s.nodes) r) ≡ f (node s p) →
+    (x : ℕ) → x < length s.nodes → f (node (join c r p s) x) ≡ f (node s x)
 join_over f c r p s i same x b =
     let front : node (join c r p s) x ≡ get_or (set s.nodes p (joined (node s p) (length s.nodes) r)) x no_node =
-    get_or_append_left (set s.nodes p (joined (node s p) (length s.nodes) r)) _ _ x (omega (arith, b, length-set s.nodes p (joined (node s p) (length s.nodes) r))) in
+    get_or_append_left (set s.nodes p (joined (node s p) (length s.nodes) r)) _ _ x
+    (omega (arith, b, length-set s.nodes p (joined (node s p) (length s.nodes) r))) in
     elim (cases_eq x p) [
-      | inl e ↦ ap f (front ∙ ap (λ y. get_or (set s.nodes p (joined (node s p) (length s.nodes) r)) y no_node) e ∙ get_or-set_same s.nodes p (joined (node s p) (length s.nodes) r) _ i.0) ∙ same ∙ sym (ap (λ y. f (node s y)) e)
+      | inl e ↦ ap f (front ∙ ap (λ y. get_or (set s.nodes p (joined (node s p) (length s.nodes) r)) y no_node) e ∙ get_or-set_same s.nodes p
+          (joined (node s p) (length s.nodes) r) _ i.0) ∙ same ∙ sym (ap (λ y. f (node s y)) e)
       | inr ne ↦ ap f (front ∙ get_or-set_other s.nodes p x (joined (node s p) (length s.nodes) r) _ ne)
     ]
 
@@ -44,7 +48,11 @@ module _ (q d : ℕ) (u : Tree) (i : IsPack u q) where
   mark_here = get_or-set_same u.nodes q (with_dual (node u q) d) _ i.0
 
   pub mark_over : {A : Type 0} (f : Node → A) → f (with_dual (node u q) d) ≡ f (node u q) → (x : ℕ) → f (node (mark_dual q d u) x) ≡ f (node u x)
-  mark_over f same x = elim (cases_eq x q) [ inl e ↦ ap (λ y. f (node (mark_dual q d u) y)) e ∙ ap f mark_here ∙ same ∙ sym (ap (λ y. f (node u y)) e) | inr ne ↦ ap f (mark_other x ne) ]
+  mark_over f same x = elim (cases_eq x q) [
+    | inl e ↦ ap (λ y. f (node (mark_dual q d u) y)) e ∙ ap f mark_here ∙ same ∙ sym (ap (λ y. f (node u y)) e)
+    | inr
+        ne ↦ ap f (mark_other x ne)
+  ]
 
 pub mark_joins : (s u : Tree) (p q r d : ℕ) (c : Kind) → Joins s u p r c → q < length s.nodes → IsPack u q → Joins s (mark_dual q d u) p r c
 mark_joins s u p q r d c j below i = record {
@@ -102,13 +110,16 @@ pub record IsMaking (m : Making) (qs : List ℕ) : Type 0 where
   pub made : IsMade m.tree
   pub duals : HasDuals m.tree
   pub some_level : 0 < m.tree.levels
-  pub last_packs : (i : ℕ) → i < length m.last → IsPack m.tree (last_at m i) × (suc (level m.tree (last_at m i)) ≡ m.tree.levels) × (dual m.tree (last_at m i) ≡ None)
+  pub last_packs : (i : ℕ) → i < length m.last → IsPack m.tree (last_at m i) × (suc (level m.tree (last_at m i)) ≡ m.tree.levels)
+      × (dual m.tree (last_at m i) ≡ None)
   pub last_all : (p : ℕ) → IsPack m.tree p → suc (level m.tree p) ≡ m.tree.levels → Among p m.last
   pub last_apart : (i j : ℕ) → i < length m.last → j < length m.last → last_at m i ≡ last_at m j → i ≡ j
-  pub pairs_below : (p q : ℕ) → IsPack m.tree p → IsPack m.tree q → p ≢ q → level m.tree p ≡ level m.tree q → suc (level m.tree p) < m.tree.levels → m.tree.scale < rate m.tree p + rate m.tree q
+  pub pairs_below : (p q : ℕ) → IsPack m.tree p → IsPack m.tree q → p ≢ q → level m.tree p ≡ level m.tree q → suc (level m.tree p) < m.tree.levels →
+      m.tree.scale < rate m.tree p + rate m.tree q
   pub roots_below : (p : ℕ) → IsPack m.tree p → suc (level m.tree p) < m.tree.levels → dual m.tree p ≡ None → (rate m.tree p ≡ m.tree.scale) ⊎ Among p qs
   pub each_below : (l : ℕ) → suc l < m.tree.levels → (p : ℕ) × IsPack m.tree p × (level m.tree p ≡ l)
-  pub waiting : (i : ℕ) → i < length qs → IsPack m.tree (get_or qs i 0) × (suc (suc (level m.tree (get_or qs i 0))) ≡ m.tree.levels) × (dual m.tree (get_or qs i 0) ≡ None) × (rate m.tree (get_or qs i 0) < m.tree.scale)
+  pub waiting : (i : ℕ) → i < length qs → IsPack m.tree (get_or qs i 0) × (suc (suc (level m.tree (get_or qs i 0))) ≡ m.tree.levels)
+      × (dual m.tree (get_or qs i 0) ≡ None) × (rate m.tree (get_or qs i 0) < m.tree.scale)
   pub apart : (i j : ℕ) → i < length qs → j < length qs → get_or qs i 0 ≡ get_or qs j 0 → i ≡ j
 
 -- how a member changes what waits
@@ -117,7 +128,8 @@ pub record Serves (c : Kind) (before after : List ℕ) : Type 0 where
   pub was : (i : ℕ) → i < length after → (j : ℕ) × (j < length before) × (get_or after i 0 ≡ get_or before j 0) × (Names c (get_or after i 0) → ⊥)
   pub apart : (i j : ℕ) → i < length after → j < length after → get_or after i 0 ≡ get_or after j 0 → i ≡ j
 
-pub step_join : (m : Making) (t : Tree) (qs rs : List ℕ) (c : Kind) (r b : ℕ) → IsMaking m qs → Grows m.tree t (last_at m b) r c → b < length m.last → IsMade t → HasDuals t → Serves c qs rs →
+pub step_join : (m : Making) (t : Tree) (qs rs : List ℕ) (c : Kind) (r b : ℕ) → IsMaking m qs → Grows m.tree t (last_at m b) r c → b < length m.last →
+    IsMade t → HasDuals t → Serves c qs rs →
     ((j : ℕ) → j < length m.last → Names c (last_at m j) → ⊥) → IsMaking (record { tree = t; last = m.last }) rs
 step_join m t qs rs c r b h g lb made' duals' serves no_last = record {
   made = made';
@@ -149,7 +161,8 @@ step_join m t qs rs c r b h g lb made' duals' serves no_last = record {
         new a.0,
         ap (λ y. suc (suc y)) (g.joins.levels x a.0.0) ∙ a.1 ∙ sym g.joins.levels_same,
         g.dual_same x a.0.0 no' ∙ a.2,
-        (let rx = g.joins.rates x a.0.0 (no_top x a.0 (let w = a.1 in omega (arith, w))) in let s = g.joins.scale_same in let w = a.3 in omega (arith, rx, s, w)),
+        (let rx = g.joins.rates x a.0.0 (no_top x a.0 (let w = a.1 in omega (arith, w))) in let s = g.joins.scale_same in let w = a.3 in
+            omega (arith, rx, s, w)),
       ))) free);
   apart = serves.apart;
 }
@@ -163,7 +176,8 @@ step_join m t qs rs c r b h g lb made' duals' serves no_last = record {
     no_top : (p : ℕ) → IsPack m.tree p → suc (level m.tree p) < m.tree.levels → p ≢ last_at m b
     no_top p i low e = let a = (h.last_packs b lb).1 in let f = ap (level m.tree) e in omega (arith, a, f, low)
 
-    root : (p : ℕ) → IsPack m.tree p → suc (level m.tree p) < m.tree.levels → (Names c p → ⊥) → (rate m.tree p ≡ m.tree.scale) ⊎ Among p qs → (rate t p ≡ t.scale) ⊎ Among p rs
+    root : (p : ℕ) → IsPack m.tree p → suc (level m.tree p) < m.tree.levels → (Names c p → ⊥) → (rate m.tree p ≡ m.tree.scale) ⊎ Among p qs →
+        (rate t p ≡ t.scale) ⊎ Among p rs
     root p i low free (inl e) = inl (g.joins.rates p i.0 (no_top p i low) ∙ e ∙ sym g.joins.scale_same)
     root p i low free (inr a) = elim (serves.rest p a) [ inl name ↦ absurd (free name) | inr more ↦ inr more ]
 
@@ -205,11 +219,18 @@ module _ (m : Making) (qs : List ℕ) (h : IsMaking m qs) where
     last_packs = λ i b. elim (cases_lt i (length m.last)) [
       | inl lb ↦ (let P : ℕ → Type 0 = λ x. IsPack t x × (suc (level t x) ≡ s.levels) × (dual t x ≡ None) in
           subst P (sym (get_or_append_left m.last (n ∷ []) 0 i lb))
-          (let a = h.last_packs i lb in let o = open_old l s (last_at m i) a.0.0 in (new (last_at m i) a.0, ap (λ y. suc (node_level y)) o ∙ a.1, ap node_dual o ∙ a.2)))
+          (let a = h.last_packs i lb in let o = open_old l s (last_at m i) a.0.0 in (
+            new (last_at m i) a.0,
+            ap (λ y. suc (node_level y)) o ∙ a.1,
+            ap node_dual o ∙ a.2,
+          )))
       | inr ge ↦ (let e : length m.last ≡ i = (let long = length-append m.last (n ∷ []) in omega (arith, b, ge, long)) in
           let P : ℕ → Type 0 = λ x. IsPack t x × (suc (level t x) ≡ s.levels) × (dual t x ≡ None) in
-          subst P (sym (get_or_push m.last n 0 i e))
-          ((let g = open_long l s in let z : n < length t.nodes = omega (arith, g) in z, ap is_pack_node (open_new l s)), (let a = ap node_level (open_new l s) in let z = h.some_level in omega (arith, a, z)), ap node_dual (open_new l s)))
+          subst P (sym (get_or_push m.last n 0 i e)) (
+            (let g = open_long l s in let z : n < length t.nodes = omega (arith, g) in z, ap is_pack_node (open_new l s)),
+            (let a = ap node_level (open_new l s) in let z = h.some_level in omega (arith, a, z)),
+            ap node_dual (open_new l s),
+          ))
     ];
     last_all = λ p i top. elim (cases_eq p n) [
       | inl e ↦ (length m.last, (let long = length-append m.last (n ∷ []) in omega (arith, long)), get_or_push m.last n 0 (length m.last) refl ∙ sym e)
@@ -223,10 +244,12 @@ module _ (m : Making) (qs : List ℕ) (h : IsMaking m qs) where
         elim (cases_lt i (length m.last)) [
           | inl li ↦ elim (cases_lt j (length m.last)) [
             | inl lj ↦ h.last_apart i j li lj (sym (get_or_append_left m.last (n ∷ []) 0 i li) ∙ e ∙ get_or_append_left m.last (n ∷ []) 0 j lj)
-            | inr gj ↦ absurd (let f = sym (get_or_append_left m.last (n ∷ []) 0 i li) ∙ e ∙ get_or_push m.last n 0 j (omega (arith, bj, gj, long)) in let a = (h.last_packs i li).0.0 in omega (arith, f, a))
+            | inr gj ↦ absurd (let f = sym (get_or_append_left m.last (n ∷ []) 0 i li) ∙ e ∙ get_or_push m.last n 0 j (omega (arith, bj, gj, long)) in
+                let a = (h.last_packs i li).0.0 in omega (arith, f, a))
           ]
           | inr gi ↦ elim (cases_lt j (length m.last)) [
-            | inl lj ↦ absurd (let f = sym (get_or_append_left m.last (n ∷ []) 0 j lj) ∙ sym e ∙ get_or_push m.last n 0 i (omega (arith, bi, gi, long)) in let a = (h.last_packs j lj).0.0 in omega (arith, f, a))
+            | inl lj ↦ absurd (let f = sym (get_or_append_left m.last (n ∷ []) 0 j lj) ∙ sym e ∙ get_or_push m.last n 0 i (omega (arith, bi, gi, long)) in
+                let a = (h.last_packs j lj).0.0 in omega (arith, f, a))
             | inr gj ↦ omega (arith, bi, bj, gi, gj, long)
           ]
         ]);
@@ -235,17 +258,24 @@ module _ (m : Making) (qs : List ℕ) (h : IsMaking m qs) where
       | inr np ↦ elim (cases_eq q n) [
         | inl e ↦ absurd (top q e (omega (arith, lo, same)))
         | inr nq ↦ (let bp = below p i np in let bq = below q j nq in let op = open_old l s p bp in let oq = open_old l s q bq in
-            let a = h.pairs_below p q (bp, sym (ap is_pack_node op) ∙ i.1) (bq, sym (ap is_pack_node oq) ∙ j.1) ne (sym (ap node_level op) ∙ same ∙ ap node_level oq) (let z = ap node_level op in omega (arith, lo, z)) in
+            let a = h.pairs_below p q (bp, sym (ap is_pack_node op) ∙ i.1) (bq, sym (ap is_pack_node oq) ∙ j.1) ne (sym (ap node_level op) ∙ same
+            ∙ ap node_level oq) (let z = ap node_level op in omega (arith, lo, z)) in
             let rp = ap node_rate op in let rq = ap node_rate oq in omega (arith, a, rp, rq))
       ]
     ];
     roots_below = λ p i lo none. elim (cases_eq p n) [
       | inl e ↦ absurd (top p e lo)
       | inr np ↦ (let b = below p i np in let o = open_old l s p b in
-          root p (ap node_rate o) (h.roots_below p (b, sym (ap is_pack_node o) ∙ i.1) (let z = ap node_level o in omega (arith, lo, z)) (sym (ap node_dual o) ∙ none)))
+          root p (ap node_rate o) (h.roots_below p (b, sym (ap is_pack_node o) ∙ i.1) (let z = ap node_level o in omega (arith, lo, z))
+          (sym (ap node_dual o) ∙ none)))
     ];
     each_below = λ k lo. (let (p, i, at) = h.each_below k lo in (p, new p i, ap node_level (open_old l s p i.0) ∙ at));
-    waiting = λ i b. (let a = h.waiting i b in let o = open_old l s (get_or qs i 0) a.0.0 in
-        (new (get_or qs i 0) a.0, ap (λ y. suc (suc (node_level y))) o ∙ a.1, ap node_dual o ∙ a.2, (let r = ap node_rate o in let w = a.3 in omega (arith, r, w))));
+    waiting = λ i b. (let a = h.waiting i b in let o = open_old l s (get_or qs i 0) a.0.0 in (
+      new (get_or qs i 0) a.0,
+      ap (λ y. suc (suc (node_level y))) o ∙ a.1,
+      ap node_dual o ∙ a.2,
+      (let r = ap node_rate o in let w = a.3 in
+          omega (arith, r, w)),
+    ));
     apart = h.apart;
   }

@@ -1,5 +1,6 @@
 -- What a new member leaves.
-use Rattle.std.proofs.Common.{◌≡◌, ℕ, suc, ◌+◌, ◌<◌, ◌≤◌, ◌≢◌, true, false, List, [], ◌∷◌, ◌++◌, length, get_or, refl, ap, arith, inl, inr, sym, subst, subst₂, ◌∙◌}
+use Rattle.std.proofs.Common.{◌≡◌, ℕ, suc, ◌+◌, ◌<◌, ◌≤◌, ◌≢◌, true, false, List, [], ◌∷◌, ◌++◌, length, get_or, refl, ap, arith, inl, inr, sym}
+use Rattle.std.proofs.Common.{subst, subst₂, ◌∙◌}
 use Rattle.std.proofs.lemmas.Bool.{cases_eq, cases_lt, both_ways}
 use Rattle.std.proofs.lemmas.List.{get_or_append_left, get_or_push, length-append}
 use Rattle.sched_base.specs.Counting.{sum_to}
@@ -89,12 +90,18 @@ module _ (s t : Tree) (p r : ℕ) (c : Kind) (j : Joins s t p r c) (h : IsMade s
         | inl e ↦ (let P : List ℕ → Type 0 = λ ms. k < length ms → Stands q k (get_or ms k 0) in
             let ms_is : members t q ≡ members s q ++ n ∷ [] = ap (members t) e ∙ j.here ∙ sym (ap (λ x. members s x ++ n ∷ []) e) in
             subst P (sym ms_is) (λ m. elim (cases_lt k (length (members s q))) [
-              | inl low ↦ (let Q : ℕ → Type 0 = λ x. Stands q k x in subst Q (sym (get_or_append_left (members s q) (n ∷ []) 0 k low)) (old_stands q k (old_pack q i) low))
+              | inl low ↦ (let Q : ℕ → Type 0 = λ x. Stands q k x in subst Q (sym (get_or_append_left (members s q) (n ∷ []) 0 k low))
+                  (old_stands q k (old_pack q i) low))
               | inr high ↦
                   (let long = length-append (members s q) (n ∷ []) in
                   let same : length (members s q) ≡ k = omega (arith, long, m, high) in
                   let Q : ℕ → Type 0 = λ x. Stands q k x in
-                  subst Q (sym (get_or_push (members s q) n 0 k same)) (the_new.0, the_new.1 ∙ sym e, the_new.2 ∙ sym (ap (λ x. length (members s x)) e) ∙ same))
+                  subst Q (sym (get_or_push (members s q) n 0 k same)) (
+                    the_new.0,
+                    the_new.1 ∙ sym e,
+                    the_new.2 ∙ sym (ap (λ x. length (members s x)) e)
+                        ∙ same,
+                  ))
             ]) l)
       ]
 
@@ -110,7 +117,11 @@ module _ (s t : Tree) (p r : ℕ) (c : Kind) (j : Joins s t p r c) (h : IsMade s
               ap (λ ms. get_or ms (length (members s p)) 0) j.here ∙ get_or_push (members s p) n 0 (length (members s p)) refl,
             )))
         | inr ne ↦
-            (let old : IsMember s x = ((let a = i.0 in let b = j.long in omega (arith, a, b, ne)), sym (j.packs x (let a = i.0 in let b = j.long in omega (arith, a, b, ne))) ∙ i.1) in
+            (let old : IsMember s x = (
+              (let a = i.0 in let b = j.long in omega (arith, a, b, ne)),
+              sym (j.packs x (let a = i.0 in let b = j.long in
+                  omega (arith, a, b, ne))) ∙ i.1,
+            ) in
             let o = old_member x old in
             let m = h.homes_are x old in
             let Q : ℕ → ℕ → Type 0 = λ a b. IsPack t a × (b < length (members t a)) × (member t a b ≡ x) in
@@ -118,12 +129,14 @@ module _ (s t : Tree) (p r : ℕ) (c : Kind) (j : Joins s t p r c) (h : IsMade s
               new_pack (home s x) m.0,
               elim (cases_eq (home s x) p) [
                 | inr other ↦ (let R : List ℕ → Type 0 = λ ms. place s x < length ms in subst R (sym (j.others (home s x) m.0.0 other)) m.1)
-                | inl same ↦ (let e = ap length (ap (members t) same ∙ j.here) in let long = length-append (members s p) (n ∷ []) in let l = m.1 in let f = ap (λ y. length (members s y)) same in omega (arith, e, long, l, f))
+                | inl same ↦ (let e = ap length (ap (members t) same ∙ j.here) in let long = length-append (members s p) (n ∷ []) in let l = m.1 in
+                    let f = ap (λ y. length (members s y)) same in omega (arith, e, long, l, f))
               ],
               elim (cases_eq (home s x) p) [
                 | inr other ↦ ap (λ ms. get_or ms (place s x) 0) (j.others (home s x) m.0.0 other) ∙ m.2
                 | inl same ↦ (let l = m.1 in let f = ap (λ y. length (members s y)) same in
-                    ap (λ ms. get_or ms (place s x) 0) (ap (members t) same ∙ j.here) ∙ get_or_append_left (members s p) (n ∷ []) 0 (place s x) (omega (arith, l, f)) ∙ sym (ap (λ y. member s y (place s x)) same) ∙ m.2)
+                    ap (λ ms. get_or ms (place s x) 0) (ap (members t) same ∙ j.here) ∙ get_or_append_left (members s p) (n ∷ []) 0 (place s x)
+                    (omega (arith, l, f)) ∙ sym (ap (λ y. member s y (place s x)) same) ∙ m.2)
               ],
             ))
       ]
@@ -132,7 +145,8 @@ module _ (s t : Tree) (p r : ℕ) (c : Kind) (j : Joins s t p r c) (h : IsMade s
   made_summed q i =
       let is = old_pack q i in
       let old : sum_to (length (members s q)) (λ k. rate t (member s q k)) ≡ rate s q =
-      (sum_to-same (length (members s q)) (λ k. rate t (member s q k)) (λ k. rate s (member s q k)) (λ k l. (old_member (member s q k) (h.members_are q k is l).0).3) ∙ h.summed q is) in
+      (sum_to-same (length (members s q)) (λ k. rate t (member s q k)) (λ k. rate s (member s q k))
+      (λ k l. (old_member (member s q k) (h.members_are q k is l).0).3) ∙ h.summed q is) in
       elim (cases_eq q p) [
         | inr ne ↦ ap (λ ms. sum_to (length ms) (λ k. rate t (get_or ms k 0))) (j.others q is.0 ne) ∙ old ∙ sym (j.rates q is.0 ne)
         | inl e ↦
@@ -140,7 +154,8 @@ module _ (s t : Tree) (p r : ℕ) (c : Kind) (j : Joins s t p r c) (h : IsMade s
             let long : length (members s q ++ n ∷ []) ≡ suc (length (members s q)) = omega (arith, length-append (members s q) (n ∷ [])) in
             let all = ap (λ ms. sum_to (length ms) (λ k. rate t (get_or ms k 0))) ms_is in
             let count = ap (λ m. sum_to m (λ k. rate t (get_or (members s q ++ n ∷ []) k 0))) long in
-            let front = sum_to-same (length (members s q)) (λ k. rate t (get_or (members s q ++ n ∷ []) k 0)) (λ k. rate t (member s q k)) (λ k l. ap (rate t) (get_or_append_left (members s q) (n ∷ []) 0 k l)) in
+            let front = sum_to-same (length (members s q)) (λ k. rate t (get_or (members s q ++ n ∷ []) k 0)) (λ k. rate t (member s q k))
+            (λ k l. ap (rate t) (get_or_append_left (members s q) (n ∷ []) 0 k l)) in
             let end = ap (rate t) (get_or_push (members s q) n 0 (length (members s q)) refl) in
             let r_new = the_new.3 in
             let r_here = j.rate_here in

@@ -55,18 +55,25 @@ module _ (l : ℕ) (s : Tree) (h : IsMade s) (low : l < s.levels) where
   opened = record {
     leveled = λ q i. elim (cases_eq q n) [
       | inl e ↦ (let a = ap node_level (new_node q e) in omega (arith, a, low))
-      | inr ne ↦ (let b = opened_below q i.0 ne in let a = ap node_level (open_old l s q b) in let d = h.leveled q (b, sym (ap is_pack_node (open_old l s q b)) ∙ i.1) in omega (arith, a, d))
+      | inr ne ↦ (let b = opened_below q i.0 ne in let a = ap node_level (open_old l s q b) in let d = h.leveled q (
+        b,
+        sym (ap is_pack_node (open_old l s q b)) ∙ i.1,
+      ) in omega (arith, a, d))
     ];
     summed = λ q i. elim (cases_eq q n) [
       | inl e ↦ ap (λ x. sum_to (length (node_members x)) (λ k. rate t (get_or (node_members x) k 0))) (new_node q e) ∙ sym (ap node_rate (new_node q e))
       | inr ne ↦ (let b = opened_below q i.0 ne in let is : IsPack s q = (b, sym (ap is_pack_node (open_old l s q b)) ∙ i.1) in
           ap (λ x. sum_to (length (node_members x)) (λ k. rate t (get_or (node_members x) k 0))) (open_old l s q b)
-          ∙ sum_to-same (length (members s q)) (λ k. rate t (member s q k)) (λ k. rate s (member s q k)) (λ k lk. ap node_rate (open_old l s (member s q k) (h.members_are q k is lk).0.0))
+          ∙ sum_to-same (length (members s q)) (λ k. rate t (member s q k)) (λ k. rate s (member s q k)) (λ k lk. ap node_rate (open_old l s (member s q k)
+          (h.members_are q k is lk).0.0))
           ∙ h.summed q is ∙ sym (ap node_rate (open_old l s q b)))
     ];
     within = λ q i. elim (cases_eq q n) [
       | inl e ↦ (let a = ap node_rate (new_node q e) in omega (arith, a))
-      | inr ne ↦ (let b = opened_below q i.0 ne in let a = ap node_rate (open_old l s q b) in let d = h.within q (b, sym (ap is_pack_node (open_old l s q b)) ∙ i.1) in omega (arith, a, d))
+      | inr ne ↦ (let b = opened_below q i.0 ne in let a = ap node_rate (open_old l s q b) in let d = h.within q (
+        b,
+        sym (ap is_pack_node (open_old l s q b)) ∙ i.1,
+      ) in omega (arith, a, d))
     ];
     members_are = λ q k i lk. elim (cases_eq q n) [
       | inl e ↦ absurd (let a = ap (λ x. length (node_members x)) (new_node q e) in omega (arith, a, lk))
@@ -111,14 +118,20 @@ join_joins c r p s i no_pack = record {
   rate_here = ap node_rate here;
   others = λ x b ne. ap node_members (elsewhere x b ne);
   here = ap node_members here;
-  added = get_or_push (set s.nodes p (joined (node s p) (length s.nodes) r)) (member_node c r p (length (members s p))) _ (length s.nodes) (length-set s.nodes p (joined (node s p) (length s.nodes) r));
+  added = get_or_push (set s.nodes p (joined (node s p) (length s.nodes) r)) (member_node c r p (length (members s p))) _ (length s.nodes)
+      (length-set s.nodes p (joined (node s p) (length s.nodes) r));
 }
   where
     join_long : length (join c r p s).nodes ≡ suc (length s.nodes)
-    join_long = omega (arith, length-append (set s.nodes p (joined (node s p) (length s.nodes) r)) (member_node c r p (length (members s p)) ∷ []), length-set s.nodes p (joined (node s p) (length s.nodes) r))
+    join_long = omega (
+      arith,
+      length-append (set s.nodes p (joined (node s p) (length s.nodes) r)) (member_node c r p (length (members s p)) ∷ []),
+      length-set s.nodes p (joined (node s p) (length s.nodes) r),
+    )
 
     front : (x : ℕ) → x < length s.nodes → node (join c r p s) x ≡ get_or (set s.nodes p (joined (node s p) (length s.nodes) r)) x no_node
-    front x b = get_or_append_left (set s.nodes p (joined (node s p) (length s.nodes) r)) _ _ x (omega (arith, b, length-set s.nodes p (joined (node s p) (length s.nodes) r)))
+    front x b = get_or_append_left (set s.nodes p (joined (node s p) (length s.nodes) r)) _ _ x
+        (omega (arith, b, length-set s.nodes p (joined (node s p) (length s.nodes) r)))
 
     elsewhere : (x : ℕ) → x < length s.nodes → x ≢ p → node (join c r p s) x ≡ node s x
     elsewhere x b ne = front x b ∙ get_or-set_other s.nodes p x (joined (node s p) (length s.nodes) r) _ ne
@@ -126,5 +139,10 @@ join_joins c r p s i no_pack = record {
     here : node (join c r p s) p ≡ joined (node s p) (length s.nodes) r
     here = front p i.0 ∙ get_or-set_same s.nodes p (joined (node s p) (length s.nodes) r) _ i.0
 
-    over : {A : Type 0} (f : Node → A) (x : ℕ) → x < length s.nodes → f (joined (node s p) (length s.nodes) r) ≡ f (node s p) → f (node (join c r p s) x) ≡ f (node s x)
-    over f x b same = elim (cases_eq x p) [ inl e ↦ ap (λ y. f (node (join c r p s) y)) e ∙ ap f here ∙ same ∙ sym (ap (λ y. f (node s y)) e) | inr ne ↦ ap f (elsewhere x b ne) ]
+    over : {A : Type 0} (f : Node → A) (x : ℕ) → x < length s.nodes → f (joined (node s p) (length s.nodes) r) ≡ f (node s p) →
+        f (node (join c r p s) x) ≡ f (node s x)
+    over f x b same = elim (cases_eq x p) [
+      | inl e ↦ ap (λ y. f (node (join c r p s) y)) e ∙ ap f here ∙ same ∙ sym (ap (λ y. f (node s y)) e)
+      | inr ne ↦ ap
+          f (elsewhere x b ne)
+    ]

@@ -1,5 +1,6 @@
 -- The level above has fewer packs, and a level of roots makes a tree.
-use Rattle.std.proofs.Common.{◌≡◌, ℕ, zero, suc, ◌+◌, ◌-◌, ◌*◌, ◌<◌, ◌≤◌, Bool, cond, List, [], ◌∷◌, map, length, get_or, refl, ap, arith, inl, inr, sym, subst, ap₂, ◌∙◌, filter, mul-le-mul_right}
+use Rattle.std.proofs.Common.{◌≡◌, ℕ, zero, suc, ◌+◌, ◌-◌, ◌*◌, ◌<◌, ◌≤◌, Bool, cond, List, [], ◌∷◌, map, length, get_or, refl, ap, arith, inl, inr}
+use Rattle.std.proofs.Common.{sym, subst, ap₂, ◌∙◌, filter, mul-le-mul_right}
 use Rattle.std.proofs.lemmas.Bool.{cases_eq, cases_lt, cases_Bool, ltb-true, ltb-false, lt-ltb}
 use Rattle.std.proofs.lemmas.List.{length-map, get_or-map}
 use Rattle.run_tree.specs.Tree.{Tree, rate, level, IsTree}
@@ -9,7 +10,8 @@ use Rattle.run_tree.specs.Making.{Making, Item, last_rates, dual_items, lower_pa
 use Rattle.run_tree.specs.Compiled.{level_above}
 use Rattle.tree_laws.proofs.MakingSteps.{last_at, IsMaking}
 use Rattle.tree_laws.proofs.PackItems.{IsPacked, pack_duals, parts}
-use Rattle.tree_laws.proofs.LastLevel.{kept_in, kept_from, total, AllSome, IsLevel, is_lower, pair_last, begun, total_packed, some_packed, packed_keeps, fewer_packs}
+use Rattle.tree_laws.proofs.LastLevel.{kept_in, kept_from, total, AllSome, IsLevel, is_lower, pair_last, begun, total_packed, some_packed}
+use Rattle.tree_laws.proofs.LastLevel.{packed_keeps, fewer_packs}
 
 abbrev pub dual_rates : Tree → List ℕ → List ℕ
 dual_rates t qs = map (λ (x : Item). x.rate) (dual_items t qs)
@@ -35,8 +37,10 @@ lower_total m (p ∷ ps) h =
     let here = h 0 (omega arith) in
     let f : List ℕ → ℕ = λ xs. total (dual_rates m.tree xs) in
     elim (cases_Bool (is_lower m p)) [
-      | inl on ↦ (let e = ap f (ap (λ b. cond b (p ∷ filter (is_lower m) ps) (filter (is_lower m) ps)) on) in let l = ltb-true (rate m.tree p) m.tree.scale on in omega (arith, ih, here, e, l))
-      | inr off ↦ (let e = ap f (ap (λ b. cond b (p ∷ filter (is_lower m) ps) (filter (is_lower m) ps)) off) in let l = ltb-false (rate m.tree p) m.tree.scale off in omega (arith, ih, here, e, l))
+      | inl on ↦ (let e = ap f (ap (λ b. cond b (p ∷ filter (is_lower m) ps) (filter (is_lower m) ps)) on) in let l = ltb-true (rate m.tree p) m.tree.scale
+          on in omega (arith, ih, here, e, l))
+      | inr off ↦ (let e = ap f (ap (λ b. cond b (p ∷ filter (is_lower m) ps) (filter (is_lower m) ps)) off) in let l = ltb-false (rate m.tree p)
+          m.tree.scale off in omega (arith, ih, here, e, l))
     ]
 
 pub filter_le : (f : ℕ → Bool) (ps : List ℕ) → length (filter f ps) ≤ length ps
@@ -54,8 +58,10 @@ some_at (r ∷ rs) zero a l = a.0
 some_at (r ∷ rs) (suc i) a l = some_at rs i a.1 (omega arith)
 
 -- fewer packs than duals
-pub enough : (m : Making) → IsLevel m → (qs : List ℕ) → IsMaking (new_level m) qs → (k n : ℕ) → 0 < length qs → total (dual_rates m.tree qs) + k * m.tree.scale ≡ n * m.tree.scale →
-    ((i : ℕ) → i < length qs → (j : ℕ) × (j < length m.last) × (last_at m j ≡ get_or qs i 0)) → length (packed_from m.tree.scale (dual_rates m.tree qs) []) < length qs
+pub enough : (m : Making) → IsLevel m → (qs : List ℕ) → IsMaking (new_level m) qs → (k n : ℕ) → 0 < length qs →
+    total (dual_rates m.tree qs) + k * m.tree.scale ≡ n * m.tree.scale →
+    ((i : ℕ) → i < length qs → (j : ℕ) × (j < length m.last) × (last_at m j ≡ get_or qs i 0)) → length (packed_from m.tree.scale (dual_rates m.tree qs) [])
+    < length qs
 enough m v [] h k n l whole in_last = absurd (omega arith)
 enough m v (q ∷ []) h k n l whole in_last =
     let (j, lj, e) = in_last 0 (omega arith) in
@@ -71,7 +77,8 @@ enough m v (q ∷ []) h k n l whole in_last =
 enough m v (q ∷ r ∷ qs) h k n l whole in_last =
     let wq = h.waiting 0 (omega arith) in
     let wr = h.waiting 1 (omega arith) in
-    let over = pair_last m v.making v.pairs q r wq.0 wr.0 (λ e. (let z = h.apart 0 1 (omega arith) (omega arith) e in omega (arith, z))) (let a = wq.1 in omega (arith, a)) (let a = wr.1 in omega (arith, a)) in
+    let over = pair_last m v.making v.pairs q r wq.0 wr.0 (λ e. (let z = h.apart 0 1 (omega arith) (omega arith) e in omega (arith, z))) (let a = wq.1 in
+    omega (arith, a)) (let a = wr.1 in omega (arith, a)) in
     let lq = wq.3 in let lr = wr.3 in
     let f = fewer_packs m.tree.scale (m.tree.scale - rate m.tree q) (m.tree.scale - rate m.tree r) (dual_rates m.tree qs) (omega (arith, over, lq, lr)) in
     let long = duals_long m.tree qs in
@@ -93,7 +100,8 @@ pub lift_fewer : (m : Making) → IsLevel m → 0 < length (lower_packs m) → l
 lift_fewer m v some =
     let (k, whole) = lift_whole m v in
     let packs = ap length (lift_packed m v).rates in
-    let less = enough m v (lower_packs m) (begun m v) k (length m.last) some whole (λ i l. (let (j, lj, e, ok) = kept_in (is_lower m) m.last i l in (j, lj, e))) in
+    let less = enough m v (lower_packs m) (begun m v) k (length m.last) some whole (λ i l. (let (j, lj, e, ok) = kept_in (is_lower m) m.last i l in
+    (j, lj, e))) in
     let long = length-map (level_above m (lower_packs m)).last (rate (level_above m (lower_packs m)).tree) in
     omega (arith, packs, less, long)
 
@@ -114,7 +122,8 @@ lift_level m v some =
       pairs = p.pairs;
       positive = subst AllSome (sym p.rates) (some_packed m.tree.scale (dual_rates m.tree qs) [] (duals_some m.tree qs less) tt);
       whole = (c, is ∙ ap (λ s. c * s) (sym p.scale_same));
-      some = (let a = ap length p.rates in let b = one_left m.tree.scale (dual_rates m.tree qs) (let d = duals_long m.tree qs in omega (arith, d, some)) in omega (arith, a, b, long));
+      some = (let a = ap length p.rates in let b = one_left m.tree.scale (dual_rates m.tree qs) (let d = duals_long m.tree qs in omega (arith, d, some)) in
+          omega (arith, a, b, long));
       leaves = (let a = p.sum in let z = duals_have_no_part m.tree qs in let l = v.leaves in
           omega (arith, a, z, l, ap₂ (λ x y. x * y) p.processors_same p.scale_same));
     }

@@ -1,5 +1,6 @@
 -- Items packed one after another.
-use Rattle.std.proofs.Common.{◌≡◌, ℕ, zero, suc, ◌+◌, ◌-◌, ◌<◌, ◌≤◌, Bool, List, [], ◌∷◌, ◌++◌, map, length, get_or, refl, ap, arith, ◌⊎◌, inl, inr, sym, subst, subst₂, ap₂, ◌∙◌, nat_lt}
+use Rattle.std.proofs.Common.{◌≡◌, ℕ, zero, suc, ◌+◌, ◌-◌, ◌<◌, ◌≤◌, Bool, List, [], ◌∷◌, ◌++◌, map, length, get_or, refl, ap, arith, ◌⊎◌, inl, inr}
+use Rattle.std.proofs.Common.{sym, subst, subst₂, ap₂, ◌∙◌, nat_lt}
 use Rattle.std.proofs.lemmas.Bool.{cases_Bool, ltb-true, ltb-false}
 use Rattle.std.proofs.lemmas.List.{get_or_push, length-append, length-map, get_or-map}
 use Rattle.std.proofs.lemmas.List.{append_assoc, append-nil}
@@ -16,7 +17,8 @@ use Rattle.tree_laws.proofs.LeafEntries.{Entry, entries, kind_entry, entries_any
 use Rattle.tree_laws.proofs.NewPack.{open_old, open_new, open_long}
 use Rattle.tree_laws.proofs.MakingSteps.{Grows, last_at, Among, IsMaking, Serves, step_open}
 use Rattle.tree_laws.proofs.FirstFitRates.{IsRoom, room_is, with_item_last, PairsExceed, pairs_with_item}
-use Rattle.tree_laws.proofs.PutMember.{IsNext, join_step, next_open, open_rates, join_rates, Filled, join_filled, open_filled, leaf_sum, leaf_part, join_sum, open_sum}
+use Rattle.tree_laws.proofs.PutMember.{IsNext, join_step, next_open, open_rates, join_rates, Filled, join_filled, open_filled, leaf_sum, leaf_part}
+use Rattle.tree_laws.proofs.PutMember.{join_sum, open_sum}
 
 pub record IsPut (m made : Making) (rs : List ℕ) (c : Kind) (r b : ℕ) : Type 0 where
   pub making : IsMaking made rs
@@ -40,7 +42,8 @@ from_next (kind.Leaf leaf) t r next = tt
 from_next (kind.Pack level) t r next = absurd next
 from_next (kind.Dual q) t r next = next.0
 
-module _ (m : Making) (qs rs : List ℕ) (c : Kind) (r b : ℕ) (h : IsMaking m qs) (f : Filled m.tree) (some : 0 < r) (next : IsNext m.tree r c) (serves : Serves c qs rs) where
+module _ (m : Making) (qs rs : List ℕ) (c : Kind) (r b : ℕ) (h : IsMaking m qs) (f : Filled m.tree) (some : 0 < r) (next : IsNext m.tree r c)
+    (serves : Serves c qs rs) where
   pub put_old : b < length m.last → rate m.tree (last_at m b) + r ≤ m.tree.scale → IsPut m (joined_at c r b m) rs c r b
   put_old l fits =
       let (is, g) = join_step c m qs rs r b h l fits some next serves in
@@ -56,32 +59,40 @@ module _ (m : Making) (qs rs : List ℕ) (c : Kind) (r b : ℕ) (h : IsMaking m 
         kept = λ q i low. g.joins.rates q i.0 (λ e. (let a = (h.last_packs b l).1 in let z = ap (level m.tree) e in omega (arith, a, z, low)));
       }
     where
-      rates_of : (d : Kind) → Grows m.tree (joined_at d r b m).tree (last_at m b) r d → b < length m.last → last_rates (joined_at d r b m) ≡ with_item r b (last_rates m)
+      rates_of : (d : Kind) → Grows m.tree (joined_at d r b m).tree (last_at m b) r d → b < length m.last → last_rates (joined_at d r b m) ≡ with_item r b
+          (last_rates m)
       rates_of d g l = join_rates m (joined_at d r b m).tree qs r b d h l g
 
   pub put_new : length m.last ≤ b → r ≤ m.tree.scale → IsPut m (joined_at c r (length m.last) (opened m)) rs c r b
   put_new l fits =
       let o = step_open m qs h in
       let at : last_at (opened m) (length m.last) ≡ length m.tree.nodes = get_or_push m.last (length m.tree.nodes) 0 (length m.last) refl in
-      let zero_rate : rate (opened m).tree (last_at (opened m) (length m.last)) ≡ 0 = ap (rate (opened m).tree) at ∙ ap node_rate (open_new (m.tree.levels - 1) m.tree) in
+      let zero_rate : rate (opened m).tree (last_at (opened m) (length m.last)) ≡ 0 = ap (rate (opened m).tree) at
+      ∙ ap node_rate (open_new (m.tree.levels - 1) m.tree) in
       let long = length-append m.last (length m.tree.nodes ∷ []) in
       let below : length m.last < length (opened m).last = omega (arith, long) in
       let (is, g) = join_step c (opened m) qs rs r (length m.last) o below (omega (arith, zero_rate, fits)) some (next_open c m qs r h next) serves in
       let t : Tree = (joined_at c r (length m.last) (opened m)).tree in
       record {
         making = is;
-        filled = join_filled (opened m).tree t (last_at (opened m) (length m.last)) r c g.joins o.made (λ q i ne. open_filled m qs h f q i (λ e. ne (e ∙ sym at)));
+        filled = join_filled (opened m).tree t (last_at (opened m) (length m.last)) r c g.joins o.made (λ q i ne. open_filled m qs h f q i
+            (λ e. ne (e ∙ sym at)));
         rates = rates_of c g o below l;
-        sum = (let a = join_sum (opened m).tree t (last_at (opened m) (length m.last)) r c g.joins in let z = open_sum (m.tree.levels - 1) m.tree in omega (arith, a, z));
+        sum = (let a = join_sum (opened m).tree t (last_at (opened m) (length m.last)) r c g.joins in let z = open_sum (m.tree.levels - 1) m.tree in
+            omega (arith, a, z));
         scale_same = g.joins.scale_same;
         levels_same = g.joins.levels_same;
         processors_same = processors_join c r (length m.last) (opened m);
-        leaves = entries_any c r (last_at (opened m) (length m.last)) (opened m).tree (o.last_packs (length m.last) below).0 (from_next c (opened m).tree r (next_open c m qs r h next)) ∙ ap (λ xs. xs ++ kind_entry c r) (entries_open (m.tree.levels - 1) m.tree);
+        leaves = entries_any c r (last_at (opened m) (length m.last)) (opened m).tree (o.last_packs (length m.last) below).0 (from_next c (opened m).tree r
+            (next_open c m qs r h next)) ∙ ap (λ xs. xs ++ kind_entry c r) (entries_open (m.tree.levels - 1) m.tree);
         kept = λ q i low. (let e = open_old (m.tree.levels - 1) m.tree q i.0 in
-            g.joins.rates q (let a = i.0 in let n = open_long (m.tree.levels - 1) m.tree in omega (arith, a, n)) (λ s. (let z = (o.last_packs (length m.last) below).1 in let y = ap (level (opened m).tree) s in let w = ap node_level e in omega (arith, z, y, w, low))) ∙ ap node_rate e);
+            g.joins.rates q (let a = i.0 in let n = open_long (m.tree.levels - 1) m.tree in omega (arith, a, n))
+            (λ s. (let z = (o.last_packs (length m.last) below).1 in let y = ap (level (opened m).tree) s in let w = ap node_level e in
+            omega (arith, z, y, w, low))) ∙ ap node_rate e);
       }
     where
-      rates_of : (d : Kind) → Grows (opened m).tree (joined_at d r (length m.last) (opened m)).tree (last_at (opened m) (length m.last)) r d → IsMaking (opened m) qs → length m.last < length (opened m).last → length m.last ≤ b →
+      rates_of : (d : Kind) → Grows (opened m).tree (joined_at d r (length m.last) (opened m)).tree (last_at (opened m) (length m.last)) r d →
+          IsMaking (opened m) qs → length m.last < length (opened m).last → length m.last ≤ b →
           last_rates (joined_at d r (length m.last) (opened m)) ≡ with_item r b (last_rates m)
       rates_of d g o below l =
           (let long = length-map m.last (rate m.tree) in
@@ -137,7 +148,8 @@ IsLeafItem scale x = IsLeafKind x.kind × (0 < x.rate) × (x.rate ≤ scale)
 pub serves_leaf : (leaf : Leaf) → Serves (kind.Leaf leaf) [] []
 serves_leaf leaf = record { rest = λ p a. inr a; was = λ i l. absurd (omega arith); apart = λ i j l. absurd (omega arith) }
 
-pub pairs_put : (m made : Making) (rs : List ℕ) (c : Kind) (r b : ℕ) → IsPut m made rs c r b → IsRoom m.tree.scale r (last_rates m) b → PairsExceed m.tree.scale (last_rates m) → PairsExceed made.tree.scale (last_rates made)
+pub pairs_put : (m made : Making) (rs : List ℕ) (c : Kind) (r b : ℕ) → IsPut m made rs c r b → IsRoom m.tree.scale r (last_rates m) b →
+    PairsExceed m.tree.scale (last_rates m) → PairsExceed made.tree.scale (last_rates made)
 pairs_put m made rs c r b put room h =
     subst₂ (λ s xs. PairsExceed s xs) (sym put.scale_same) (sym put.rates) (pairs_with_item m.tree.scale r b (last_rates m) room h)
 
@@ -153,13 +165,15 @@ leaf_serves (kind.Pack level) ok = absurd ok
 leaf_serves (kind.Dual q) ok = absurd ok
 
 -- the dual of the first pack that waits may come next
-pub dual_next : (q : ℕ) (qs : List ℕ) (m : Making) (t : Tree) → IsMaking m (q ∷ qs) → m.tree.scale ≡ t.scale → rate m.tree q ≡ rate t q → IsNext m.tree (t.scale - rate t q) (kind.Dual (node_id q))
+pub dual_next : (q : ℕ) (qs : List ℕ) (m : Making) (t : Tree) → IsMaking m (q ∷ qs) → m.tree.scale ≡ t.scale → rate m.tree q ≡ rate t q →
+    IsNext m.tree (t.scale - rate t q) (kind.Dual (node_id q))
 dual_next q qs m t h scale now =
     let w = h.waiting 0 (omega arith) in
     let less = w.3 in
     (w.0, w.1, w.2, w.3, omega (arith, less, now, scale))
 
-pub dual_serves : (q : ℕ) (qs : List ℕ) → ((i j : ℕ) → i < length (q ∷ qs) → j < length (q ∷ qs) → get_or (q ∷ qs) i 0 ≡ get_or (q ∷ qs) j 0 → i ≡ j) → Serves (kind.Dual (node_id q)) (q ∷ qs) qs
+pub dual_serves : (q : ℕ) (qs : List ℕ) → ((i j : ℕ) → i < length (q ∷ qs) → j < length (q ∷ qs) → get_or (q ∷ qs) i 0 ≡ get_or (q ∷ qs) j 0 → i ≡ j) →
+    Serves (kind.Dual (node_id q)) (q ∷ qs) qs
 dual_serves q qs apart = record {
   rest = among;
   was = λ i l. (suc i, omega arith, refl, (λ e. (let z = apart (suc i) 0 (omega arith) (omega arith) e in omega (arith, z))));
@@ -170,13 +184,26 @@ dual_serves q qs apart = record {
     among p (zero, l, e) = inl (sym e)
     among p (suc i, l, e) = inr (i, omega arith, e)
 
-pub pack_leaves : (xs : List Item) (m : Making) → IsMaking m [] → Filled m.tree → PairsExceed m.tree.scale (last_rates m) → m.tree.levels ≡ 1 → AllByRecursion (IsLeafItem m.tree.scale) xs → IsPacked m (pack_items xs m) xs
-pack_leaves [] m h f pairs one all = record { making = h; filled = f; pairs = pairs; scale_same = refl; levels_same = refl; processors_same = refl; rates = refl; sum = omega arith; leaves = sym (append-nil (entries m.tree.nodes)) }
+pub pack_leaves : (xs : List Item) (m : Making) → IsMaking m [] → Filled m.tree → PairsExceed m.tree.scale (last_rates m) → m.tree.levels ≡ 1 →
+    AllByRecursion (IsLeafItem m.tree.scale) xs → IsPacked m (pack_items xs m) xs
+pack_leaves [] m h f pairs one all = record {
+  making = h;
+  filled = f;
+  pairs = pairs;
+  scale_same = refl;
+  levels_same = refl;
+  processors_same = refl;
+  rates = refl;
+  sum = omega arith;
+  leaves = sym (append-nil (entries m.tree.nodes));
+}
 pack_leaves (x ∷ xs) m h f pairs one all =
     let b = first_with_room m.tree.scale x.rate (last_rates m) in
     let room = room_is m.tree.scale x.rate (last_rates m) in
-    let put' : IsPut m (put x.kind x.rate b m) [] x.kind x.rate b = put_first m [] [] x.kind x.rate b h f all.0.1 (leaf_next x.kind x.rate m.tree one all.0.0) (leaf_serves x.kind all.0.0) all.0.2 room in
-    let rest = pack_leaves xs (put x.kind x.rate b m) put'.making put'.filled (pairs_put m (put x.kind x.rate b m) [] x.kind x.rate b put' room pairs) (put'.levels_same ∙ one)
+    let put' : IsPut m (put x.kind x.rate b m) [] x.kind x.rate b = put_first m [] [] x.kind x.rate b h f all.0.1 (leaf_next x.kind x.rate m.tree one
+    all.0.0) (leaf_serves x.kind all.0.0) all.0.2 room in
+    let rest = pack_leaves xs (put x.kind x.rate b m) put'.making put'.filled (pairs_put m (put x.kind x.rate b m) [] x.kind x.rate b put' room pairs)
+    (put'.levels_same ∙ one)
     (let P : ℕ → Type 0 = λ s. AllByRecursion (IsLeafItem s) xs in subst P (sym put'.scale_same) all.1) in
     record {
       making = rest.making;
@@ -190,17 +217,30 @@ pack_leaves (x ∷ xs) m h f pairs one all =
       leaves = rest.leaves ∙ ap (λ ys. ys ++ item_entries xs) put'.leaves ∙ append_assoc (entries m.tree.nodes) (kind_entry x.kind x.rate) (item_entries xs);
     }
 
-pub pack_duals : (qs : List ℕ) (t : Tree) (m : Making) → IsMaking m qs → Filled m.tree → PairsExceed m.tree.scale (last_rates m) → m.tree.scale ≡ t.scale → ((i : ℕ) → i < length qs → rate m.tree (get_or qs i 0) ≡ rate t (get_or qs i 0)) →
+pub pack_duals : (qs : List ℕ) (t : Tree) (m : Making) → IsMaking m qs → Filled m.tree → PairsExceed m.tree.scale (last_rates m) → m.tree.scale ≡ t.scale →
+    ((i : ℕ) → i < length qs → rate m.tree (get_or qs i 0) ≡ rate t (get_or qs i 0)) →
     IsPacked m (pack_items (dual_items t qs) m) (dual_items t qs)
-pack_duals [] t m h f pairs scale same = record { making = h; filled = f; pairs = pairs; scale_same = refl; levels_same = refl; processors_same = refl; rates = refl; sum = omega arith; leaves = sym (append-nil (entries m.tree.nodes)) }
+pack_duals [] t m h f pairs scale same = record {
+  making = h;
+  filled = f;
+  pairs = pairs;
+  scale_same = refl;
+  levels_same = refl;
+  processors_same = refl;
+  rates = refl;
+  sum = omega arith;
+  leaves = sym (append-nil (entries m.tree.nodes));
+}
 pack_duals (q ∷ qs) t m h f pairs scale same =
     let r = t.scale - rate t q in
     let b = first_with_room m.tree.scale r (last_rates m) in
     let room = room_is m.tree.scale r (last_rates m) in
     let less = (h.waiting 0 (omega arith)).3 in
     let now = same 0 (omega arith) in
-    let put' : IsPut m (put (kind.Dual (node_id q)) r b m) qs (kind.Dual (node_id q)) r b = put_first m (q ∷ qs) qs (kind.Dual (node_id q)) r b h f (omega (arith, less, now, scale)) (dual_next q qs m t h scale now) (dual_serves q qs h.apart) (omega (arith, less, now, scale)) room in
-    let rest = pack_duals qs t (put (kind.Dual (node_id q)) r b m) put'.making put'.filled (pairs_put m (put (kind.Dual (node_id q)) r b m) qs (kind.Dual (node_id q)) r b put' room pairs) (put'.scale_same ∙ scale)
+    let put' : IsPut m (put (kind.Dual (node_id q)) r b m) qs (kind.Dual (node_id q)) r b = put_first m (q ∷ qs) qs (kind.Dual (node_id q)) r b h f
+    (omega (arith, less, now, scale)) (dual_next q qs m t h scale now) (dual_serves q qs h.apart) (omega (arith, less, now, scale)) room in
+    let rest = pack_duals qs t (put (kind.Dual (node_id q)) r b m) put'.making put'.filled (pairs_put m (put (kind.Dual (node_id q)) r b m) qs
+    (kind.Dual (node_id q)) r b put' room pairs) (put'.scale_same ∙ scale)
     (λ i l. (let v = h.waiting (suc i) (omega arith) in put'.kept (get_or qs i 0) v.0 v.1 ∙ same (suc i) (omega arith))) in
     record {
       making = rest.making;

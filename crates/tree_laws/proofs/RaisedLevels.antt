@@ -51,7 +51,8 @@ module _ (m : Making) (v : IsLevel m) where
       record {
         scale_same = p.scale_same ∙ below.scale_same;
         processors_same = p.processors_same ∙ below.processors_same;
-        leaves = p.leaves ∙ ap (λ xs. entries (raised n m).tree.nodes ++ xs) (duals_no_entries (raised n m).tree (lower_packs (raised n m))) ∙ append-nil (entries (raised n m).tree.nodes) ∙ below.leaves;
+        leaves = p.leaves ∙ ap (λ xs. entries (raised n m).tree.nodes ++ xs) (duals_no_entries (raised n m).tree (lower_packs (raised n m)))
+            ∙ append-nil (entries (raised n m).tree.nodes) ∙ below.leaves;
       }
 
   pub raised_levels : (n : ℕ) → IsRaised n m → (raised n m).tree.levels ≡ m.tree.levels + n
@@ -81,7 +82,8 @@ module _ (m : Making) (v : IsLevel m) where
   pub climb_raised : (n fuel : ℕ) → IsRaised n m → climb (n + fuel) m ≡ climb fuel (raised n m)
   climb_raised zero fuel h = ap (λ f. climb f m) (omega arith)
   climb_raised (suc n) fuel h =
-      ap (λ f. climb f m) (omega arith) ∙ climb_raised n (suc fuel) (raised_before n h) ∙ climb_by_some (lower_packs (raised n m)) (raised n m) (climb fuel) (h n (omega arith))
+      ap (λ f. climb f m) (omega arith) ∙ climb_raised n (suc fuel) (raised_before n h) ∙ climb_by_some (lower_packs (raised n m)) (raised n m) (climb fuel)
+      (h n (omega arith))
 
   pub raised_ends : (n : ℕ) → IsRaised n m → length (lower_packs (raised n m)) ≡ 0 → all_levels m ≡ raised n m
   raised_ends n h done =
@@ -106,4 +108,8 @@ module _ (m : Making) (v : IsLevel m) where
           ]
         where
           one_more : (n : ℕ) → IsRaised n m → 0 < length (lower_packs (raised n m)) → IsRaised (suc n) m
-          one_more n h some k l = elim (cases_lt k n) [ inl b ↦ h k b | inr ge ↦ (let e : n ≡ k = omega (arith, l, ge) in let P : ℕ → Type 0 = λ x. 0 < length (lower_packs (raised x m)) in subst P e some) ]
+          one_more n h some k l = elim (cases_lt k n) [
+            | inl b ↦ h k b
+            | inr ge ↦ (let e : n ≡ k = omega (arith, l, ge) in let P : ℕ → Type 0 = λ x. 0 < length (lower_packs (raised x m)) in
+                subst P e some)
+          ]

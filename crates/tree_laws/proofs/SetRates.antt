@@ -21,13 +21,16 @@ rate_within scale t some lawful divides =
     let work = lawful.some_work in
     let fits = lawful.work_fits in
     let is : rate_of scale t ≡ t.work * times =
-    ap (λ x. t.work * x / t.period) (sym whole) ∙ ap (λ x. x / t.period) (omega arith) ∙ mul-div_cancel (t.work * times) {n = t.period} (omega (arith, work, fits)) in
+    ap (λ x. t.work * x / t.period) (sym whole) ∙ ap (λ x. x / t.period) (omega arith) ∙ mul-div_cancel (t.work * times) {n = t.period}
+    (omega (arith, work, fits)) in
     let most : t.work * times ≤ t.period * times = mul-le-mul_right times fits in
     let least : 1 * times ≤ t.work * times = mul-le-mul_right times work in
-    let positive : 1 ≤ times = elim (cases_eq times 0) [ inl none ↦ (let zero_scale = ap (λ x. t.period * x) none in omega (arith, zero_scale, whole, some)) | inr some' ↦ omega (arith, some') ] in
+    let positive : 1 ≤ times = elim (cases_eq times 0)
+    [ inl none ↦ (let zero_scale = ap (λ x. t.period * x) none in omega (arith, zero_scale, whole, some)) | inr some' ↦ omega (arith, some') ] in
     (omega (arith, is, least, positive), omega (arith, is, most, whole))
 
-pub rates_within : (scale : ℕ) (tasks : List Task) → 1 ≤ scale → AllByRecursion IsLawfulTask tasks → PeriodsDivide tasks scale → AllByRecursion (λ rate. (1 ≤ rate) × (rate ≤ scale)) (map (rate_of scale) tasks)
+pub rates_within : (scale : ℕ) (tasks : List Task) → 1 ≤ scale → AllByRecursion IsLawfulTask tasks → PeriodsDivide tasks scale →
+    AllByRecursion (λ rate. (1 ≤ rate) × (rate ≤ scale)) (map (rate_of scale) tasks)
 rates_within scale [] some each divides = tt
 rates_within scale (t ∷ tasks) some each divides = (rate_within scale t some each.0 divides.0, rates_within scale tasks some each.1 divides.1)
 
@@ -36,5 +39,6 @@ rates_fit s scale lawful is fits = record {
   some_processors = lawful.some_processors;
   some_scale = is.positive;
   each = All-from_recursion (λ rate. (1 ≤ rate) × (rate ≤ scale)) (map (rate_of scale) s.tasks) (rates_within scale s.tasks is.positive lawful.each is.divided);
-  fit = (let same = same_total (map (rate_of scale) s.tasks) ∙ is_sum_by (λ (tasks : List Task). total (map (rate_of scale) tasks)) (rate_of scale) refl (λ t tasks. refl) s.tasks in omega (arith, same, fits));
+  fit = (let same = same_total (map (rate_of scale) s.tasks) ∙ is_sum_by (λ (tasks : List Task). total (map (rate_of scale) tasks)) (rate_of scale) refl
+      (λ t tasks. refl) s.tasks in omega (arith, same, fits));
 }

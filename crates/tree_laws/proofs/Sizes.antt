@@ -64,12 +64,14 @@ idle_leaves k [] = omega arith
 idle_leaves k (zero ∷ amounts) = let ih = idle_leaves k amounts in omega (arith, ih)
 idle_leaves k (suc a ∷ amounts) = let ih = idle_leaves (suc k) amounts in omega (arith, ih)
 
-pub leaves_few : (processors scale : ℕ) (rates : List ℕ) → RatesFit processors scale rates → leaf_count (first_level processors scale rates).tree ≤ length rates + max processors (length (packed scale rates))
+pub leaves_few : (processors scale : ℕ) (rates : List ℕ) → RatesFit processors scale rates → leaf_count (first_level processors scale rates).tree ≤ length
+    rates + max processors (length (packed scale rates))
 unfolding packed
 leaves_few processors scale rates h =
     let are = leaves_counted (first_level processors scale rates).tree.nodes in
     let is = ap length ((filled_in processors scale rates h.some_processors h.some_scale (each processors scale rates h) (fit processors scale rates h)).leaves
-    ∙ ap (λ xs. xs ++ idle_entries 0 (given processors scale rates h)) (first.packed processors scale rates h.some_processors h.some_scale (each processors scale rates h) (fit processors scale rates h)).leaves) in
+    ∙ ap (λ xs. xs ++ idle_entries 0 (given processors scale rates h)) (first.packed processors scale rates h.some_processors h.some_scale
+    (each processors scale rates h) (fit processors scale rates h)).leaves) in
     let both = length-append (item_entries (task_items 0 rates)) (idle_entries 0 (given processors scale rates h)) in
     let tasks = task_leaves 0 rates in
     let idles = idle_leaves 0 (given processors scale rates h) in
@@ -83,4 +85,5 @@ both_hold P Q [] p q = tt
 both_hold P Q (x ∷ xs) p q = ((p.0, q.0), both_hold P Q xs p.1 q.1)
 
 pub level_rates_fit : (m : Making) → IsLevel m → All (λ rate. (1 ≤ rate) × (rate ≤ m.tree.scale)) (last_rates m)
-level_rates_fit m v = All-from_recursion (λ rate. (1 ≤ rate) × (rate ≤ m.tree.scale)) (last_rates m) (both_hold (λ r. 0 < r) (λ r. r ≤ m.tree.scale) (last_rates m) v.positive (rates_within m v.making))
+level_rates_fit m v = All-from_recursion (λ rate. (1 ≤ rate) × (rate ≤ m.tree.scale)) (last_rates m) (both_hold (λ r. 0 < r) (λ r. r ≤ m.tree.scale)
+    (last_rates m) v.positive (rates_within m v.making))

@@ -29,7 +29,8 @@ pub record MayCome (m : Making) (leaf_rate b : ℕ) : Type 0 where
 -- ---- items, one more
 
 pub pack_items-push : (items : List Item) (x : Item) (m : Making) →
-    pack_items (items ++ x ∷ []) m ≡ put x.kind x.rate (first_with_room (pack_items items m).tree.scale x.rate (last_rates (pack_items items m))) (pack_items items m)
+    pack_items (items ++ x ∷ []) m ≡ put x.kind x.rate (first_with_room (pack_items items m).tree.scale x.rate (last_rates (pack_items items m)))
+    (pack_items items m)
 pack_items-push [] x m = refl
 pack_items-push (y ∷ items) x m = pack_items-push items x (put y.kind y.rate (first_with_room m.tree.scale y.rate (last_rates m)) m)
 
@@ -38,10 +39,12 @@ task_item j rate = record { kind = kind.Leaf (Task (task_id j)); rate = rate }
 
 pub task_items-push : (i : ℕ) (rates : List ℕ) (rate : ℕ) → task_items i (rates ++ rate ∷ []) ≡ task_items i rates ++ task_item (i + length rates) rate ∷ []
 task_items-push i [] rate = ap (λ j. task_item j rate ∷ []) (omega arith)
-task_items-push i (r ∷ rates) rate = ap (λ xs. task_item i r ∷ xs) (task_items-push (suc i) rates rate ∙ ap (λ j. task_items (suc i) rates ++ task_item j rate ∷ []) (omega arith))
+task_items-push i (r ∷ rates) rate = ap (λ xs. task_item i r ∷ xs) (task_items-push (suc i) rates rate ∙ ap (λ j. task_items (suc i) rates ++ task_item j
+    rate ∷ []) (omega arith))
 
 -- the home of item j is the first server with room beside the items before
-pub home_from : (scale : ℕ) (rates servers : List ℕ) (j : ℕ) → j < length rates → get_or (homes_from scale rates servers) j 0 ≡ first_with_room scale (get_or rates j 0) (packed_from scale (take j rates) servers)
+pub home_from : (scale : ℕ) (rates servers : List ℕ) (j : ℕ) → j < length rates → get_or (homes_from scale rates servers) j 0 ≡ first_with_room scale
+    (get_or rates j 0) (packed_from scale (take j rates) servers)
 home_from scale [] servers j l = absurd (omega arith)
 home_from scale (r ∷ rates) servers zero l = refl
 home_from scale (r ∷ rates) servers (suc j) l = home_from scale rates (with_item r (first_with_room scale r servers) servers) j (omega arith)
@@ -67,7 +70,8 @@ module _ (processors scale : ℕ) (rates : List ℕ) (h : RatesFit processors sc
   pub tasks_kept : (j : ℕ) → ((with_tasks j).tree.scale ≡ scale) × ((with_tasks j).tree.processors ≡ processors) × ((with_tasks j).tree.levels ≡ 1)
   tasks_kept j =
       let k = rates_below j in
-      let p = first.packed processors scale (take j rates) k.some_processors k.some_scale (each processors scale (take j rates) k) (fit processors scale (take j rates) k) in
+      let p = first.packed processors scale (take j rates) k.some_processors k.some_scale (each processors scale (take j rates) k)
+      (fit processors scale (take j rates) k) in
       (p.scale_same, p.processors_same, p.levels_same)
 
   pub tasks_rates : (j : ℕ) → last_rates (with_tasks j) ≡ packed scale (take j rates)
@@ -77,7 +81,8 @@ module _ (processors scale : ℕ) (rates : List ℕ) (h : RatesFit processors sc
   tasks_counted j l =
       let k = rates_below j in
       let are = leaves_counted (with_tasks j).tree.nodes in
-      let is = ap length (first.packed processors scale (take j rates) k.some_processors k.some_scale (each processors scale (take j rates) k) (fit processors scale (take j rates) k)).leaves in
+      let is = ap length (first.packed processors scale (take j rates) k.some_processors k.some_scale (each processors scale (take j rates) k)
+      (fit processors scale (take j rates) k)).leaves in
       let count = task_leaves 0 (take j rates) in
       let long = length-take-le j rates l in
       omega (arith, are, is, count, long)
@@ -95,7 +100,8 @@ module _ (processors scale : ℕ) (rates : List ℕ) (h : RatesFit processors sc
       let home : told_home j ≡ first_with_room m.tree.scale r (last_rates m) =
       home_is j l ∙ ap₂ (λ s ss. first_with_room s r ss) (sym (tasks_kept j).0) (sym (tasks_rates j)) in
       let more : task_items 0 (take (suc j) rates) ≡ task_items 0 (take j rates) ++ task_item j r ∷ [] =
-      ap (task_items 0) (take-suc rates j 0 l) ∙ task_items-push 0 (take j rates) r ∙ ap (λ i. task_items 0 (take j rates) ++ task_item i r ∷ []) (omega (arith, long)) in
+      ap (task_items 0) (take-suc rates j 0 l) ∙ task_items-push 0 (take j rates) r ∙ ap (λ i. task_items 0 (take j rates) ++ task_item i r ∷ [])
+      (omega (arith, long)) in
       ap (λ b. put (kind.Leaf (Task (task_id j))) r b m) home
       ∙ sym (pack_items-push (task_items 0 (take j rates)) (task_item j r) (started processors scale))
       ∙ ap (λ xs. pack_items xs (started processors scale)) (sym more)
@@ -121,6 +127,7 @@ module _ (processors scale : ℕ) (rates : List ℕ) (h : RatesFit processors sc
             let f = room.fits (omega (arith, home, b, long)) in
             let at = get_or-map (rate m.tree) m.last (told_home j) 0 0 b in
             let is = ap (λ xs. get_or xs (told_home j) 0) (tasks_rates j) in
-            let there : get_or (packed scale (take j rates)) (told_home j) 0 ≡ get_or (packed scale (take j rates)) (first_with_room scale (get_or rates j 0) (packed scale (take j rates))) 0 = ap (λ x. get_or (packed scale (take j rates)) x 0) home in
+            let there : get_or (packed scale (take j rates)) (told_home j) 0 ≡ get_or (packed scale (take j rates)) (first_with_room scale
+            (get_or rates j 0) (packed scale (take j rates))) 0 = ap (λ x. get_or (packed scale (take j rates)) x 0) home in
             omega (arith, f, at, is, there, same));
       }

@@ -1,5 +1,6 @@
 -- The compiled tree holds each task once, and idle leaves with the numbers below their count.
-use Rattle.std.proofs.Common.{◌≡◌, ℕ, zero, suc, ◌+◌, ◌<◌, ◌&&◌, List, [], ◌∷◌, ◌++◌, map, length, get_or, take, refl, ap, arith, ◌⊎◌, inl, inr, sym, subst, ◌∙◌}
+use Rattle.std.proofs.Common.{◌≡◌, ℕ, zero, suc, ◌+◌, ◌<◌, ◌&&◌, List, [], ◌∷◌, ◌++◌, map, length, get_or, take, refl, ap, arith, ◌⊎◌, inl, inr, sym}
+use Rattle.std.proofs.Common.{subst, ◌∙◌}
 use Rattle.std.proofs.lemmas.Bool.{cases_lt}
 use Rattle.std.proofs.lemmas.List.{length-map, get_or-map}
 use Rattle.sched_base.specs.Counting.{sum_to, bit}
@@ -67,7 +68,8 @@ module _ (amounts : List ℕ) where
   abbrev pub all : ℕ → List ℕ → List Entry
   all j rates = item_entries (task_items j rates) ++ idle_entries 0 amounts
 
-  pub task_entry : (j : ℕ) (rates : List ℕ) (i : ℕ) → i < length rates → (i < length (all j rates)) × (get_or (all j rates) i no_entry ≡ record { leaf = Task (task_id (j + i)); rate = get_or rates i 0 })
+  pub task_entry : (j : ℕ) (rates : List ℕ) (i : ℕ) → i < length rates → (i < length (all j rates)) × (get_or (all j rates) i no_entry ≡ record
+      { leaf = Task (task_id (j + i)); rate = get_or rates i 0 })
   task_entry j [] i l = absurd (omega arith)
   task_entry j (r ∷ rs) zero l = (omega arith, ap (λ n. let e : Entry = record { leaf = Task (task_id n); rate = r } in e) (omega arith))
   task_entry j (r ∷ rs) (suc i) l =
@@ -76,7 +78,8 @@ module _ (amounts : List ℕ) where
 
   -- entry i is that of a task, or of an idle leaf
   abbrev pub IsEntry : ℕ → List ℕ → ℕ → Leaf → Type 0
-  IsEntry j rates i leaf = ((i < length rates) × (leaf ≡ Task (task_id (j + i)))) ⊎ ((n : ℕ) × (i ≡ length rates + n) × (n < length (idle_entries 0 amounts)) × (leaf ≡ Idle n))
+  IsEntry j rates i leaf = ((i < length rates) × (leaf ≡ Task (task_id (j + i)))) ⊎ ((n : ℕ) × (i ≡ length rates + n)
+      × (n < length (idle_entries 0 amounts)) × (leaf ≡ Idle n))
 
   pub entry_is : (j : ℕ) (rates : List ℕ) (i : ℕ) → i < length (all j rates) → IsEntry j rates i (get_or (all j rates) i no_entry).leaf
   entry_is j [] i l = inr (i, omega arith, l, idle_at 0 amounts i l ∙ ap Idle (omega arith))
@@ -116,7 +119,8 @@ module _ (t : Tree) (rates amounts : List ℕ) (is : entries t.nodes ≡ all amo
   pub of_task : (x : ℕ) (id : TaskId) → IsLeaf t x → leaf t x ≡ Task id → (before x ≡ id.0) × (id.0 < length rates)
   of_task x id i e =
       elim (leaf_is x i) [
-        | inl task ↦ (let same : id ≡ task_id (0 + before x) = cc (task.1, e) in let f = ap (λ (n : TaskId). n.0) same in let l = task.0 in (omega (arith, f), omega (arith, f, l)))
+        | inl task ↦ (let same : id ≡ task_id (0 + before x) = cc (task.1, e) in let f = ap (λ (n : TaskId). n.0) same in let l = task.0 in
+            (omega (arith, f), omega (arith, f, l)))
         | inr idle ↦ absurd (let f = idle.3 in cc (f, e))
       ]
 
@@ -134,8 +138,13 @@ module _ (t : Tree) (rates amounts : List ℕ) (is : entries t.nodes ≡ all amo
         let (b, e) = task_entry amounts 0 rates j lr in
         let lb : j < length (entries t.nodes) = (let a = ap length is in omega (arith, a, b)) in
         let (x, lx, is_leaf, at) = leaf_from t.nodes j lb in
-        let both = sym at ∙ ap (λ es. get_or es j no_entry) is ∙ e in
-        (x, (lx, is_leaf), ap (λ (z : Entry). z.leaf) both ∙ ap (λ n. Task (task_id n)) (omega arith), ap (λ (z : Entry). z.rate) both ∙ ap (λ rs. get_or rs j 0) are ∙ get_or-map (rate_of t.scale) tasks j _ 0 l));
+        let both = sym at ∙ ap (λ es. get_or es j no_entry) is ∙ e in (
+          x,
+          (lx, is_leaf),
+          ap (λ (z : Entry). z.leaf) both ∙ ap (λ n. Task (task_id n)) (omega arith),
+          ap (λ (z : Entry). z.rate) both
+              ∙ ap (λ rs. get_or rs j 0) are ∙ get_or-map (rate_of t.scale) tasks j _ 0 l,
+        ));
     once = λ x y id ix iy ex ey. alone x y ix iy ((of_task x id ix ex).0 ∙ sym (of_task y id iy ey).0);
     known = λ x id i e. (let a = (of_task x id i e).1 in let b = ap length are in let c = length-map tasks (rate_of t.scale) in omega (arith, a, b, c));
     real = λ x i. elim (leaf_is x i) [ inl task ↦ ap is_real task.1 | inr idle ↦ (let (n, at, b, f) = idle in ap is_real f) ];

@@ -1,5 +1,6 @@
 -- The reading of a text, part by part.
-use Rattle.std.proofs.Common.{lit<, ◌≡◌, ℕ, zero, suc, ◌+◌, ◌-◌, ◌^◌, ◌<◌, ◌≤◌, true, false, cond, List, [], ◌∷◌, ◌++◌, Option, Some, None, Result, Ok, Err, codes, length, get_or, refl, ap, ap₂, arith, inl, inr, sym, subst, ◌∙◌}
+use Rattle.std.proofs.Common.{lit<, ◌≡◌, ℕ, zero, suc, ◌+◌, ◌-◌, ◌^◌, ◌<◌, ◌≤◌, true, false, cond, List, [], ◌∷◌, ◌++◌, Option, Some, None, Result}
+use Rattle.std.proofs.Common.{Ok, Err, codes, length, get_or, refl, ap, ap₂, arith, inl, inr, sym, subst, ◌∙◌}
 use Rattle.std.specs.Prelude.{is_some, IfOk, IfErr}
 use Rattle.std.specs.List.{AllByRecursion, range_with_len, sum_by}
 use Rattle.std.proofs.lemmas.Bool.{cases_lt, cond-true, cond-false}
@@ -22,37 +23,44 @@ use Rattle.trace_check.specs.declared.faults.TraceFault.{TraceFault}
 use Rattle.trace_check.specs.declared.faults.TraceFault.TheVariants.{BadLine, NoMemory}
 use Rattle.trace_check.specs.Faults.{NamesBadLine}
 use Rattle.tree_reader.specs.Packs.{pack_of, second_number}
-use Rattle.tree_reader.specs.Reading.{tree_head, idles_from, packs_from, level_from, with_pack, last_line, is_count, ended, levels_from, body, reading, lines_so_far}
+use Rattle.tree_reader.specs.Reading.{tree_head, idles_from, packs_from, level_from, with_pack, last_line, is_count, ended, levels_from, body}
+use Rattle.tree_reader.specs.Reading.{reading, lines_so_far}
 
 -- ---- one line more
 
 pub idles_more : (first scale n at k : ℕ) (done : List ℕ) (lines rest : List (List ℕ)) (rate : ℕ) → 0 < n → at ≡ first + length done → k ≡ length done
-    → next_line at (second_number (codes "idle") k 1 scale) lines ≡ Ok (rate, rest) → idles_from first scale n done lines ≡ idles_from first scale (n - 1) (done ++ rate ∷ []) rest
+    → next_line at (second_number (codes "idle") k 1 scale) lines ≡ Ok (rate, rest) → idles_from first scale n done lines ≡ idles_from first scale (n - 1)
+    (done ++ rate ∷ []) rest
 idles_more first scale zero at k done lines rest rate some a b e = absurd (omega (arith, some))
 idles_more first scale (suc n) at k done lines rest rate some a b e =
     let one : n ≡ suc n - 1 = omega arith in
     let f = sym (ap₂ (λ x y. next_line x (second_number (codes "idle") y 1 scale) lines) a b) ∙ e in
-    ap (λ r. and_then r (λ (p : ℕ × List (List ℕ)). idles_from first scale n (done ++ p.0 ∷ []) p.1)) f ∙ ap (λ m. idles_from first scale m (done ++ rate ∷ []) rest) one
+    ap (λ r. and_then r (λ (p : ℕ × List (List ℕ)). idles_from first scale n (done ++ p.0 ∷ []) p.1)) f
+    ∙ ap (λ m. idles_from first scale m (done ++ rate ∷ []) rest) one
 
 pub idles_stop : (first scale n at k : ℕ) (done : List ℕ) (lines : List (List ℕ)) (line : ℕ) → 0 < n → at ≡ first + length done → k ≡ length done
     → next_line at (second_number (codes "idle") k 1 scale) lines ≡ Err line → idles_from first scale n done lines ≡ Err line
 idles_stop first scale zero at k done lines line some a b e = absurd (omega (arith, some))
 idles_stop first scale (suc n) at k done lines line some a b e =
-    ap (λ r. and_then r (λ (p : ℕ × List (List ℕ)). idles_from first scale n (done ++ p.0 ∷ []) p.1)) (sym (ap₂ (λ x y. next_line x (second_number (codes "idle") y 1 scale) lines) a b) ∙ e)
+    ap (λ r. and_then r (λ (p : ℕ × List (List ℕ)). idles_from first scale n (done ++ p.0 ∷ []) p.1))
+    (sym (ap₂ (λ x y. next_line x (second_number (codes "idle") y 1 scale) lines) a b) ∙ e)
 
-pub packs_more : (scale l first n : ℕ) (done : List Pack) (lines rest : List (List ℕ)) (line : List ℕ) (p : Pack) → 0 < n → lines ≡ line ∷ rest → pack_of scale l line ≡ Some p
+pub packs_more : (scale l first n : ℕ) (done : List Pack) (lines rest : List (List ℕ)) (line : List ℕ) (p : Pack) → 0 < n → lines ≡ line ∷ rest →
+    pack_of scale l line ≡ Some p
     → packs_from scale l first n done lines ≡ packs_from scale l first (n - 1) (done ++ p ∷ []) rest
 packs_more scale l first zero done lines rest line p some e f = absurd (omega (arith, some))
 packs_more scale l first (suc n) done lines rest line p some e f =
     let one : suc n - 1 ≡ n = omega arith in
     rw (e, f, one) refl
 
-pub packs_stop : (scale l first n : ℕ) (done : List Pack) (lines rest : List (List ℕ)) (line : List ℕ) → 0 < n → lines ≡ line ∷ rest → pack_of scale l line ≡ None
+pub packs_stop : (scale l first n : ℕ) (done : List Pack) (lines rest : List (List ℕ)) (line : List ℕ) → 0 < n → lines ≡ line ∷ rest →
+    pack_of scale l line ≡ None
     → packs_from scale l first n done lines ≡ Err (first + length done)
 packs_stop scale l first zero done lines rest line some e f = absurd (omega (arith, some))
 packs_stop scale l first (suc n) done lines rest line some e f = rw (e, f) refl
 
-pub packs_end : (scale l first n : ℕ) (done : List Pack) (lines : List (List ℕ)) → 0 < n → lines ≡ [] → packs_from scale l first n done lines ≡ Err (first + length done)
+pub packs_end : (scale l first n : ℕ) (done : List Pack) (lines : List (List ℕ)) → 0 < n → lines ≡ [] → packs_from scale l first n done lines ≡ Err
+    (first + length done)
 packs_end scale l first zero done lines some e = absurd (omega (arith, some))
 packs_end scale l first (suc n) done lines some e = rw e refl
 
@@ -76,12 +84,16 @@ levels_packs scale first (suc n) at levels done [] e = ap Err e
 levels_packs scale first (suc n) at levels done (line ∷ rest) e =
     let long = length-append levels (done ∷ []) in
     let l : length (levels ++ done ∷ []) - 1 ≡ length levels = omega (arith, long) in
-    ap (λ k. and_then (step at (pack_of scale k line) rest) (λ (p : Pack × List (List ℕ)). levels_from scale (at + 1) n (with_pack p.0 (levels ++ done ∷ [])) rest)) l
-    ∙ go (pack_of scale (length levels) line) (λ p. levels_packs scale first n (at + 1) levels (done ++ p ∷ []) rest (let a = length-append done (p ∷ []) in omega (arith, a, e)))
+    ap (λ k. and_then (step at (pack_of scale k line) rest) (λ (p : Pack × List (List ℕ)). levels_from scale (at + 1) n
+    (with_pack p.0 (levels ++ done ∷ [])) rest)) l
+    ∙ go (pack_of scale (length levels) line) (λ p. levels_packs scale first n (at + 1) levels (done ++ p ∷ []) rest (let a = length-append done (p ∷ []) in
+    omega (arith, a, e)))
   where
-    go : (o : Option Pack) → ((p : Pack) → levels_from scale (at + 1) n (levels ++ (done ++ p ∷ []) ∷ []) rest ≡ next_level scale first levels (packs_from scale (length levels) first n (done ++ p ∷ []) rest))
+    go : (o : Option Pack) → ((p : Pack) → levels_from scale (at + 1) n (levels ++ (done ++ p ∷ []) ∷ []) rest ≡ next_level scale first levels
+        (packs_from scale (length levels) first n (done ++ p ∷ []) rest))
         → and_then (step at o rest) (λ (p : Pack × List (List ℕ)). levels_from scale (at + 1) n (with_pack p.0 (levels ++ done ∷ [])) rest)
-        ≡ next_level scale first levels (and_then (step (first + length done) o rest) (λ (p : Pack × List (List ℕ)). packs_from scale (length levels) first n (done ++ p.0 ∷ []) p.1))
+        ≡ next_level scale first levels (and_then (step (first + length done) o rest) (λ (p : Pack × List (List ℕ)). packs_from scale (length levels) first
+        n (done ++ p.0 ∷ []) p.1))
     go None ih = ap Err e
     go (Some p) ih = ap (λ ls. levels_from scale (at + 1) n ls rest) (with_last p levels done) ∙ ih p
 
@@ -94,26 +106,31 @@ levels_level scale at levels line rest off =
     ∙ go (second_number (codes "level") (length levels) 1 1280 line)
   where
     go : (o : Option ℕ) → and_then (step at o rest) (λ (n : ℕ × List (List ℕ)). levels_from scale (at + 1) n.0 (levels ++ [] ∷ []) rest)
-        ≡ and_then (and_then (step at o rest) (λ (n : ℕ × List (List ℕ)). packs_from scale (length levels) (at + 1) n.0 [] n.1)) (λ p. levels_from scale (at + 1 + length p.0) 0 (levels ++ p.0 ∷ []) p.1)
+        ≡ and_then (and_then (step at o rest) (λ (n : ℕ × List (List ℕ)). packs_from scale (length levels) (at + 1) n.0 [] n.1)) (λ p. levels_from scale
+        (at + 1 + length p.0) 0 (levels ++ p.0 ∷ []) p.1)
     go None = refl
     go (Some n) = levels_packs scale (at + 1) n (at + 1) levels [] rest (omega arith)
 
-pub levels_more : (scale at : ℕ) (levels : List (List Pack)) (lines rest after : List (List ℕ)) (line : List ℕ) (packs : List Pack) → lines ≡ line ∷ rest → is_some (after_word (codes "levels") line) ≡ false
-    → level_from scale (length levels) at line rest ≡ Ok (packs, after) → levels_from scale at 0 levels lines ≡ levels_from scale (at + (1 + length packs)) 0 (levels ++ packs ∷ []) after
+pub levels_more : (scale at : ℕ) (levels : List (List Pack)) (lines rest after : List (List ℕ)) (line : List ℕ) (packs : List Pack) → lines ≡ line ∷ rest →
+    is_some (after_word (codes "levels") line) ≡ false
+    → level_from scale (length levels) at line rest ≡ Ok (packs, after) → levels_from scale at 0 levels lines ≡ levels_from scale (at + (1 + length packs))
+    0 (levels ++ packs ∷ []) after
 levels_more scale at levels lines rest after line packs e off f =
     let z : at + 1 + length packs ≡ at + (1 + length packs) = omega arith in
     ap (levels_from scale at 0 levels) e ∙ levels_level scale at levels line rest off
     ∙ ap (λ r. and_then r (λ (p : List Pack × List (List ℕ)). levels_from scale (at + 1 + length p.0) 0 (levels ++ p.0 ∷ []) p.1)) f
     ∙ ap (λ k. levels_from scale k 0 (levels ++ packs ∷ []) after) z
 
-pub levels_stop : (scale at : ℕ) (levels : List (List Pack)) (lines rest : List (List ℕ)) (line : List ℕ) (fault : TraceFault) → lines ≡ line ∷ rest → is_some (after_word (codes "levels") line) ≡ false
+pub levels_stop : (scale at : ℕ) (levels : List (List Pack)) (lines rest : List (List ℕ)) (line : List ℕ) (fault : TraceFault) → lines ≡ line ∷ rest →
+    is_some (after_word (codes "levels") line) ≡ false
     → NamesBadLine (level_from scale (length levels) at line rest) fault → NamesBadLine (levels_from scale at 0 levels lines) fault
 levels_stop scale at levels lines rest line (BadLine bad) e off s =
     ap (levels_from scale at 0 levels) e ∙ levels_level scale at levels line rest off
     ∙ ap (λ r. and_then r (λ (p : List Pack × List (List ℕ)). levels_from scale (at + 1 + length p.0) 0 (levels ++ p.0 ∷ []) p.1)) s
 levels_stop scale at levels lines rest line NoMemory e off s = tt
 
-pub levels_done : (scale at : ℕ) (levels : List (List Pack)) (lines rest : List (List ℕ)) (line : List ℕ) → lines ≡ line ∷ rest → is_some (after_word (codes "levels") line) ≡ true
+pub levels_done : (scale at : ℕ) (levels : List (List Pack)) (lines rest : List (List ℕ)) (line : List ℕ) → lines ≡ line ∷ rest →
+    is_some (after_word (codes "levels") line) ≡ true
     → levels_from scale at 0 levels lines ≡ ended at levels (number_after (codes "levels") line) rest
 levels_done scale at levels lines rest line e on = ap (levels_from scale at 0 levels) e ∙ cond-true (is_some (after_word (codes "levels") line)) _ _ on
 
@@ -141,7 +158,8 @@ pub stops_same : {A : Type 0} (r s : Result A ℕ) (fault : TraceFault) → r �
 stops_same r s (BadLine line) e f = e ∙ f
 stops_same r s NoMemory e f = tt
 
-pub lawful_more : (scale : ℕ) (levels : List (List Pack)) (packs : List Pack) → ((l : ℕ) → l < length levels → IsWrittenLevel scale l (get_or levels l [])) → IsWrittenLevel scale (length levels) packs
+pub lawful_more : (scale : ℕ) (levels : List (List Pack)) (packs : List Pack) → ((l : ℕ) → l < length levels → IsWrittenLevel scale l (get_or levels l []))
+    → IsWrittenLevel scale (length levels) packs
     → (l : ℕ) → l < length (levels ++ packs ∷ []) → IsWrittenLevel scale l (get_or (levels ++ packs ∷ []) l [])
 lawful_more scale levels packs each new l low = elim (cases_lt l (length levels)) [
   | inl less ↦ subst (IsWrittenLevel scale l) (sym (get_or_append_left levels (packs ∷ []) [] l less)) (each l less)
@@ -166,29 +184,36 @@ stops_in_head text line e = rw e refl
 abbrev pub judged : Head → List Task × List (List ℕ) → Result Written ℕ
 judged h t = cond (is_scale t.0 h.scale) (body (set_of h t.0) h.scale t.1) (Err 4)
 
-pub reading_tasks : (text : List ℕ) (h : Head) (lines : List (List ℕ)) → tree_head (lines_of text) ≡ Ok (h, lines) → reading text ≡ and_then (tasks_from One h.tasks [] lines) (judged h)
+pub reading_tasks : (text : List ℕ) (h : Head) (lines : List (List ℕ)) → tree_head (lines_of text) ≡ Ok (h, lines) → reading text ≡ and_then
+    (tasks_from One h.tasks [] lines) (judged h)
 unfolding reading
 reading_tasks text h lines e = rw e refl
 
-pub tasks_same : (head h : Head) (lines : List (List ℕ)) → head ≡ capped h → head.version ≡ One → tasks_from head.version head.tasks [] lines ≡ tasks_from One h.tasks [] lines
+pub tasks_same : (head h : Head) (lines : List (List ℕ)) → head ≡ capped h → head.version ≡ One → tasks_from head.version head.tasks [] lines ≡ tasks_from
+    One h.tasks [] lines
 tasks_same head h lines c v = ap (λ w. tasks_from w head.tasks [] lines) v ∙ ap (λ (w : Head). tasks_from One w.tasks [] lines) c
 
-pub stops_in_tasks : (text : List ℕ) (head h : Head) (lines : List (List ℕ)) (fault : TraceFault) → tree_head (lines_of text) ≡ Ok (h, lines) → head ≡ capped h → head.version ≡ One
+pub stops_in_tasks : (text : List ℕ) (head h : Head) (lines : List (List ℕ)) (fault : TraceFault) → tree_head (lines_of text) ≡ Ok (h, lines) →
+    head ≡ capped h → head.version ≡ One
     → NamesBadLine (tasks_from head.version head.tasks [] lines) fault → NamesBadLine (reading text) fault
 stops_in_tasks text head h lines (BadLine line) e c v s = reading_tasks text h lines e ∙ ap (λ r. and_then r (judged h)) (sym (tasks_same head h lines c v) ∙ s)
 stops_in_tasks text head h lines NoMemory e c v s = tt
 
-pub reading_scale : (text : List ℕ) (head h : Head) (lines rest : List (List ℕ)) (tasks : List Task) → tree_head (lines_of text) ≡ Ok (h, lines) → head ≡ capped h → head.version ≡ One
+pub reading_scale : (text : List ℕ) (head h : Head) (lines rest : List (List ℕ)) (tasks : List Task) → tree_head (lines_of text) ≡ Ok (h, lines) →
+    head ≡ capped h → head.version ≡ One
     → tasks_from head.version head.tasks [] lines ≡ Ok (tasks, rest) → reading text ≡ judged h (tasks, rest)
 reading_scale text head h lines rest tasks e c v s = reading_tasks text h lines e ∙ ap (λ r. and_then r (judged h)) (sym (tasks_same head h lines c v) ∙ s)
 
-pub stops_at_scale : (text : List ℕ) (head h : Head) (lines rest : List (List ℕ)) (tasks : List Task) → tree_head (lines_of text) ≡ Ok (h, lines) → head ≡ capped h → head.version ≡ One
+pub stops_at_scale : (text : List ℕ) (head h : Head) (lines rest : List (List ℕ)) (tasks : List Task) → tree_head (lines_of text) ≡ Ok (h, lines) →
+    head ≡ capped h → head.version ≡ One
     → tasks_from head.version head.tasks [] lines ≡ Ok (tasks, rest) → is_scale tasks head.scale ≡ false → reading text ≡ Err 4
 stops_at_scale text head h lines rest tasks e c v s f =
     reading_scale text head h lines rest tasks e c v s ∙ cond-false _ _ _ (sym (scale_of_head head h tasks c) ∙ f)
 
-pub reading_body : (text : List ℕ) (head h : Head) (lines rest : List (List ℕ)) (set : SetContents) → tree_head (lines_of text) ≡ Ok (h, lines) → head ≡ capped h → head.version ≡ One
-    → tasks_from head.version head.tasks [] lines ≡ Ok (set.tasks, rest) → is_scale set.tasks head.scale ≡ true → set ≡ set_of head set.tasks → reading text ≡ body set head.scale rest
+pub reading_body : (text : List ℕ) (head h : Head) (lines rest : List (List ℕ)) (set : SetContents) → tree_head (lines_of text) ≡ Ok (h, lines) →
+    head ≡ capped h → head.version ≡ One
+    → tasks_from head.version head.tasks [] lines ≡ Ok (set.tasks, rest) → is_scale set.tasks head.scale ≡ true → set ≡ set_of head set.tasks →
+    reading text ≡ body set head.scale rest
 reading_body text head h lines rest set e c v s t same =
     reading_scale text head h lines rest set.tasks e c v s
     ∙ (cond-true _ _ _ (sym (scale_of_head head h set.tasks c) ∙ t)
@@ -196,7 +221,8 @@ reading_body text head h lines rest set e c v s t same =
 
 -- ---- the form that the type of a tree that was read keeps
 
-sum_places : (f : List Pack → ℕ) (levels : List (List Pack)) (a : ℕ) (g : ℕ → ℕ) → ((i : ℕ) → i < length levels → g (a + i) ≡ f (get_or levels i [])) → sum_by g (range_with_len a (length levels)) ≡ sum_by f levels
+sum_places : (f : List Pack → ℕ) (levels : List (List Pack)) (a : ℕ) (g : ℕ → ℕ) → ((i : ℕ) → i < length levels → g (a + i) ≡ f (get_or levels i [])) →
+    sum_by g (range_with_len a (length levels)) ≡ sum_by f levels
 sum_places f [] a g same = refl
 sum_places f (x ∷ levels) a g same =
     let e : a + 0 ≡ a = omega arith in
@@ -207,10 +233,13 @@ sum_places f (x ∷ levels) a g same =
     omega (arith, first, rest, left, right)
 
 pub lines_are : (w : Written) → end_line w ≡ 7 + length w.set.tasks + length w.idles + lines_so_far w.levels
-lines_are w = ap (λ n. 7 + length w.set.tasks + length w.idles + n) (sum_places (λ packs. suc (length packs)) w.levels 0 (λ k. suc (length (level_at w k))) (λ i low. (let e : 0 + i ≡ i = omega arith in ap (λ k. suc (length (level_at w k))) e)))
+lines_are w = ap (λ n. 7 + length w.set.tasks + length w.idles + n) (sum_places (λ packs. suc (length packs)) w.levels 0 (λ k. suc (length (level_at w k)))
+    (λ i low. (let e : 0 + i ≡ i = omega arith in ap (λ k. suc (length (level_at w k))) e)))
 
-pub written_is : (w : Written) → IsLawful w.set → is_scale w.set.tasks w.scale ≡ true → length w.idles ≤ 1024 → AllByRecursion (λ r. (1 ≤ r) × (r ≤ w.scale)) w.idles → 0 < length w.levels
-    → ((l : ℕ) → l < length w.levels → IsWrittenLevel w.scale l (get_or w.levels l [])) → 7 + length w.set.tasks + length w.idles + lines_so_far w.levels < 2 ^ 64 → IsWritten w
+pub written_is : (w : Written) → IsLawful w.set → is_scale w.set.tasks w.scale ≡ true → length w.idles ≤ 1024 → AllByRecursion (λ r. (1 ≤ r)
+    × (r ≤ w.scale)) w.idles → 0 < length w.levels
+    → ((l : ℕ) → l < length w.levels → IsWrittenLevel w.scale l (get_or w.levels l [])) → 7 + length w.set.tasks + length w.idles + lines_so_far
+    w.levels < 2 ^ 64 → IsWritten w
 written_is w lawful scale few idles some levels lines =
     let s = is_scale_to w.set.tasks w.scale scale in
     record {
@@ -244,29 +273,38 @@ all_push P (y ∷ xs) x a p = (a.0, all_push P xs x a.1 p)
 
 -- once the idle leaves are read
 abbrev pub after_idles : SetContents → ℕ → List ℕ × List (List ℕ) → Result Written ℕ
-after_idles set scale i = and_then (levels_from scale (7 + length set.tasks + length i.0) 0 [] i.1) (λ levels. Ok (record { set = set; scale = scale; idles = i.0; levels = levels }))
+after_idles set scale i = and_then (levels_from scale (7 + length set.tasks + length i.0) 0 [] i.1)
+    (λ levels. Ok (record { set = set; scale = scale; idles = i.0; levels = levels }))
 
 -- once their number is read
 abbrev pub after_count : SetContents → ℕ → ℕ × List (List ℕ) → Result Written ℕ
 after_count set scale n = and_then (idles_from (7 + length set.tasks) scale n.0 [] n.1) (after_idles set scale)
 
-pub body_count : (set : SetContents) (scale at : ℕ) (lines : List (List ℕ)) (r : Result (ℕ × List (List ℕ)) ℕ) → at ≡ 6 + length set.tasks → next_line at (number_within (codes "idles") 0 1024) lines ≡ r
+pub body_count : (set : SetContents) (scale at : ℕ) (lines : List (List ℕ)) (r : Result (ℕ × List (List ℕ)) ℕ) → at ≡ 6 + length set.tasks →
+    next_line at (number_within (codes "idles") 0 1024) lines ≡ r
     → body set scale lines ≡ and_then r (after_count set scale)
-body_count set scale at lines r a e = ap (λ x. and_then x (after_count set scale)) (sym (ap (λ k. next_line k (number_within (codes "idles") 0 1024) lines) a) ∙ e)
+body_count set scale at lines r a e = ap (λ x. and_then x (after_count set scale)) (sym (ap (λ k. next_line k (number_within (codes "idles") 0 1024) lines)
+    a) ∙ e)
 
-pub body_idles : (set : SetContents) (scale at first n : ℕ) (lines rest : List (List ℕ)) (r : Result (List ℕ × List (List ℕ)) ℕ) → at ≡ 6 + length set.tasks → next_line at (number_within (codes "idles") 0 1024) lines ≡ Ok (n, rest)
+pub body_idles : (set : SetContents) (scale at first n : ℕ) (lines rest : List (List ℕ)) (r : Result (List ℕ × List (List ℕ)) ℕ) → at ≡ 6 + length set.tasks
+    → next_line at (number_within (codes "idles") 0 1024) lines ≡ Ok (n, rest)
     → first ≡ 7 + length set.tasks → idles_from first scale n [] rest ≡ r → body set scale lines ≡ and_then r (after_idles set scale)
 body_idles set scale at first n lines rest r a e b f =
     body_count set scale at lines (Ok (n, rest)) a e ∙ ap (λ x. and_then x (after_idles set scale)) (sym (ap (λ k. idles_from k scale n [] rest) b) ∙ f)
 
-pub body_levels : (set : SetContents) (scale at first n start : ℕ) (lines rest later : List (List ℕ)) (idles : List ℕ) (r : Result (List (List Pack)) ℕ) → at ≡ 6 + length set.tasks
-    → next_line at (number_within (codes "idles") 0 1024) lines ≡ Ok (n, rest) → first ≡ 7 + length set.tasks → idles_from first scale n [] rest ≡ Ok (idles, later) → start ≡ 7 + length set.tasks + length idles
-    → levels_from scale start 0 [] later ≡ r → body set scale lines ≡ and_then r (λ levels. Ok (record { set = set; scale = scale; idles = idles; levels = levels }))
+pub body_levels : (set : SetContents) (scale at first n start : ℕ) (lines rest later : List (List ℕ)) (idles : List ℕ) (r : Result (List (List Pack)) ℕ) →
+    at ≡ 6 + length set.tasks
+    → next_line at (number_within (codes "idles") 0 1024) lines ≡ Ok (n, rest) → first ≡ 7 + length set.tasks → idles_from first scale n [] rest ≡ Ok
+    (idles, later) → start ≡ 7 + length set.tasks + length idles
+    → levels_from scale start 0 [] later ≡ r → body set scale lines ≡ and_then r
+    (λ levels. Ok (record { set = set; scale = scale; idles = idles; levels = levels }))
 body_levels set scale at first n start lines rest later idles r a e b f s g =
     body_idles set scale at first n lines rest (Ok (idles, later)) a e b f
-    ∙ ap (λ x. and_then x (λ levels. Ok (record { set = set; scale = scale; idles = idles; levels = levels }))) (sym (ap (λ k. levels_from scale k 0 [] later) s) ∙ g)
+    ∙ ap (λ x. and_then x (λ levels. Ok (record { set = set; scale = scale; idles = idles; levels = levels })))
+    (sym (ap (λ k. levels_from scale k 0 [] later) s) ∙ g)
 
-pub stops_then : {A B : Type 0} (whole : Result B ℕ) (r : Result A ℕ) (next : A → Result B ℕ) (fault : TraceFault) → whole ≡ and_then r next → NamesBadLine r fault → NamesBadLine whole fault
+pub stops_then : {A B : Type 0} (whole : Result B ℕ) (r : Result A ℕ) (next : A → Result B ℕ) (fault : TraceFault) → whole ≡ and_then r next →
+    NamesBadLine r fault → NamesBadLine whole fault
 stops_then whole r next (BadLine line) e s = e ∙ ap (λ x. and_then x next) s
 stops_then whole r next NoMemory e s = tt
 
@@ -279,5 +317,6 @@ pub err_same : {A : Type 0} (r : Result A TraceFault) (x y : Result A ℕ) → x
 err_same (Ok t) x y e h = tt
 err_same (Err f) x y e h = stops_same x y f e h
 
-pub ended_more : (at : ℕ) (levels : List (List Pack)) (n : Option ℕ) (lines : List (List ℕ)) (line : List ℕ) (rest : List (List ℕ)) → is_count levels n ≡ true → lines ≡ line ∷ rest → ended at levels n lines ≡ Err (at + 1)
+pub ended_more : (at : ℕ) (levels : List (List Pack)) (n : Option ℕ) (lines : List (List ℕ)) (line : List ℕ) (rest : List (List ℕ)) →
+    is_count levels n ≡ true → lines ≡ line ∷ rest → ended at levels n lines ≡ Err (at + 1)
 ended_more at levels n lines line rest on e = cond-true (is_count levels n) (last_line at levels lines) (Err at) on ∙ ap (last_line at levels) e

@@ -1,5 +1,6 @@
 -- Words, cut off one by one.
-use Rattle.std.proofs.Common.{◌≡◌, ℕ, zero, suc, ◌-◌, ◌^◌, ◌<◌, ◌≤◌, ◌&&◌, Bool, true, false, cond, eqb, leb, List, [], ◌∷◌, ◌++◌, Option, Some, None, option_map, option_and_then, length, refl, ap, ap₂, arith, inl, inr, sym, subst, ◌∙◌}
+use Rattle.std.proofs.Common.{◌≡◌, ℕ, zero, suc, ◌-◌, ◌^◌, ◌<◌, ◌≤◌, ◌&&◌, Bool, true, false, cond, eqb, leb, List, [], ◌∷◌, ◌++◌, Option, Some, None}
+use Rattle.std.proofs.Common.{option_map, option_and_then, length, refl, ap, ap₂, arith, inl, inr, sym, subst, ◌∙◌}
 use Rattle.std.specs.List.{AllByRecursion}
 use Rattle.std.proofs.lemmas.Bool.{cases_Bool, cond-true, cond-false, and_parts, leb-true}
 use Rattle.sched_base.specs.Names.{is_lawful_name}
@@ -26,12 +27,15 @@ pub words_cut : (text w r : List ℕ) → cut_space text ≡ Some (w, r) → wor
 words_cut [] w r e = cc
 words_cut (b ∷ bs) w r e = elim (cases_Bool (eqb b 32)) [
   | inl on ↦ (
-      let f : ◌≡◌ {A = Option Two} (Some ([], bs)) (Some (w, r)) = sym (cond-true (eqb b 32) (Some ([], bs)) (option_map (onto_first b) (cut_space bs)) on) ∙ e in
+      let f : ◌≡◌ {A = Option Two} (Some ([], bs)) (Some (w, r)) = sym (cond-true (eqb b 32) (Some ([], bs)) (option_map (onto_first b) (cut_space bs)) on)
+      ∙ e in
       let q : ◌≡◌ {A = Two} ([], bs) (w, r) = cc in
-      cond-true (eqb b 32) ([] ∷ words_of bs) (onto_first_line b (words_of bs)) on ∙ ap₂ (λ x y. x ∷ words_of y) (ap (λ (t : Two). t.0) q) (ap (λ (t : Two). t.1) q))
+      cond-true (eqb b 32) ([] ∷ words_of bs) (onto_first_line b (words_of bs)) on ∙ ap₂ (λ x y. x ∷ words_of y) (ap (λ (t : Two). t.0) q)
+      (ap (λ (t : Two). t.1) q))
   | inr off ↦
       cond-false (eqb b 32) ([] ∷ words_of bs) (onto_first_line b (words_of bs)) off
-      ∙ onto b (cut_space bs) bs w r (λ w' r' g. words_cut bs w' r' g) (sym (cond-false (eqb b 32) (Some ([], bs)) (option_map (onto_first b) (cut_space bs)) off) ∙ e)
+      ∙ onto b (cut_space bs) bs w r (λ w' r' g. words_cut bs w' r' g) (sym (cond-false (eqb b 32) (Some ([], bs)) (option_map (onto_first b)
+      (cut_space bs)) off) ∙ e)
 ]
 
 pub words_last : (text : List ℕ) → cut_space text ≡ None → words_of text ≡ text ∷ []
@@ -40,7 +44,8 @@ words_last (b ∷ bs) e = elim (cases_Bool (eqb b 32)) [
   | inl on ↦ absurd (let f : Some ([], bs) ≡ None = sym (cond-true (eqb b 32) (Some ([], bs)) (option_map (onto_first b) (cut_space bs)) on) ∙ e in cc)
   | inr off ↦
       cond-false (eqb b 32) ([] ∷ words_of bs) (onto_first_line b (words_of bs)) off
-      ∙ ap (onto_first_line b) (words_last bs (none (cut_space bs) (sym (cond-false (eqb b 32) (Some ([], bs)) (option_map (onto_first b) (cut_space bs)) off) ∙ e)))
+      ∙ ap (onto_first_line b) (words_last bs (none (cut_space bs) (sym (cond-false (eqb b 32) (Some ([], bs)) (option_map (onto_first b) (cut_space bs))
+      off) ∙ e)))
 ]
   where
     none : (o : Option Two) → option_map (onto_first b) o ≡ None → o ≡ None
@@ -68,17 +73,20 @@ members_more l rest word later m done e f =
     ∙ ap (λ o. after done (option_and_then (λ x. option_map (λ ms. x ∷ ms) (members_from l (words_of later))) o)) f
     ∙ push_after m done (members_from l (words_of later))
 
-pub members_stop : (l : ℕ) (rest word later : List ℕ) (done : List Member) → cut_space rest ≡ Some (word, later) → member_of l word ≡ None → after done (members_from l (words_of rest)) ≡ None
+pub members_stop : (l : ℕ) (rest word later : List ℕ) (done : List Member) → cut_space rest ≡ Some (word, later) → member_of l word ≡ None →
+    after done (members_from l (words_of rest)) ≡ None
 members_stop l rest word later done e f =
     ap (λ ws. after done (members_from l ws)) (words_cut rest word later e)
     ∙ ap (λ o. after done (option_and_then (λ x. option_map (λ ms. x ∷ ms) (members_from l (words_of later))) o)) f
 
-pub members_last : (l : ℕ) (rest : List ℕ) (m : Member) (done : List Member) → cut_space rest ≡ None → member_of l rest ≡ Some m → after done (members_from l (words_of rest)) ≡ Some (done ++ m ∷ [])
+pub members_last : (l : ℕ) (rest : List ℕ) (m : Member) (done : List Member) → cut_space rest ≡ None → member_of l rest ≡ Some m →
+    after done (members_from l (words_of rest)) ≡ Some (done ++ m ∷ [])
 members_last l rest m done e f =
     ap (λ ws. after done (members_from l ws)) (words_last rest e)
     ∙ ap (λ o. after done (option_and_then (λ x. option_map (λ ms. x ∷ ms) (members_from l [])) o)) f
 
-pub members_last_stop : (l : ℕ) (rest : List ℕ) (done : List Member) → cut_space rest ≡ None → member_of l rest ≡ None → after done (members_from l (words_of rest)) ≡ None
+pub members_last_stop : (l : ℕ) (rest : List ℕ) (done : List Member) → cut_space rest ≡ None → member_of l rest ≡ None →
+    after done (members_from l (words_of rest)) ≡ None
 members_last_stop l rest done e f =
     ap (λ ws. after done (members_from l ws)) (words_last rest e)
     ∙ ap (λ o. after done (option_and_then (λ x. option_map (λ ms. x ∷ ms) (members_from l [])) o)) f
@@ -91,14 +99,17 @@ pub cut_shorter : (text w r : List ℕ) → cut_space text ≡ Some (w, r) → l
 cut_shorter [] w r e = cc
 cut_shorter (b ∷ bs) w r e = elim (cases_Bool (eqb b 32)) [
   | inl on ↦ (
-      let f : ◌≡◌ {A = Option Two} (Some ([], bs)) (Some (w, r)) = sym (cond-true (eqb b 32) (Some ([], bs)) (option_map (onto_first b) (cut_space bs)) on) ∙ e in
+      let f : ◌≡◌ {A = Option Two} (Some ([], bs)) (Some (w, r)) = sym (cond-true (eqb b 32) (Some ([], bs)) (option_map (onto_first b) (cut_space bs)) on)
+      ∙ e in
       let q : ◌≡◌ {A = Two} ([], bs) (w, r) = cc in
       let z = ap (λ (t : Two). length t.1) q in
       omega (arith, z))
-  | inr off ↦ shorter (cut_space bs) (λ w' r' g. cut_shorter bs w' r' g) (sym (cond-false (eqb b 32) (Some ([], bs)) (option_map (onto_first b) (cut_space bs)) off) ∙ e)
+  | inr off ↦ shorter (cut_space bs) (λ w' r' g. cut_shorter bs w' r' g) (sym (cond-false (eqb b 32) (Some ([], bs)) (option_map (onto_first b)
+      (cut_space bs)) off) ∙ e)
 ]
   where
-    shorter : (o : Option Two) → ((w' r' : List ℕ) → o ≡ Some (w', r') → length r' < length bs) → option_map (onto_first b) o ≡ Some (w, r) → length r < length (b ∷ bs)
+    shorter : (o : Option Two) → ((w' r' : List ℕ) → o ≡ Some (w', r') → length r' < length bs) → option_map (onto_first b) o ≡ Some (w, r) →
+        length r < length (b ∷ bs)
     shorter None ih e = cc
     shorter (Some p) ih e =
         let q : ◌≡◌ {A = Two} (onto_first b p) (w, r) = cc in
@@ -110,7 +121,8 @@ cut_shorter (b ∷ bs) w r e = elim (cases_Bool (eqb b 32)) [
 
 pub number_at : (l : ℕ) (o : Option ℕ) (m : Member) → option_map Number (option_and_then (within 0 (2 ^ 32 - 1)) o) ≡ Some m → IsMemberAt l m
 number_at l None m e = cc
-number_at l (Some n) m e = go (leb 0 n && leb n (2 ^ 32 - 1)) (λ t. (let p = and_parts (leb 0 n) (leb n (2 ^ 32 - 1)) t in let h = leb-true n (2 ^ 32 - 1) p.1 in omega (arith, h))) e
+number_at l (Some n) m e = go (leb 0 n && leb n (2 ^ 32 - 1)) (λ t. (let p = and_parts (leb 0 n) (leb n (2 ^ 32 - 1)) t in let h = leb-true n (2 ^ 32 - 1)
+    p.1 in omega (arith, h))) e
   where
     go : (t : Bool) → (t ≡ true → n < 2 ^ 32) → option_map Number (cond t (Some n) None) ≡ Some m → IsMemberAt l m
     go true h e = (let q : Number n ≡ m = cc in subst (IsMemberAt l) q (h refl))
@@ -138,11 +150,13 @@ member_at zero word m e = leaf_at word m e
 member_at (suc l) word m e = dual_at (suc l) word m e
 
 -- so many members as words, each of the form
-pub members_at : (l : ℕ) (words : List (List ℕ)) (ms : List Member) → members_from l words ≡ Some ms → AllByRecursion (IsMemberAt l) ms × (length ms ≡ length words)
+pub members_at : (l : ℕ) (words : List (List ℕ)) (ms : List Member) → members_from l words ≡ Some ms → AllByRecursion (IsMemberAt l) ms
+    × (length ms ≡ length words)
 members_at l [] ms e = (let q : [] ≡ ms = cc in (subst (AllByRecursion (IsMemberAt l)) q tt, sym (ap length q)))
 members_at l (word ∷ words) ms e = go (member_of l word) (members_from l words) (λ m f. member_at l word m f) (λ rest f. members_at l words rest f) e
   where
-    go : (o : Option Member) (rest : Option (List Member)) → ((m : Member) → o ≡ Some m → IsMemberAt l m) → ((xs : List Member) → rest ≡ Some xs → AllByRecursion (IsMemberAt l) xs × (length xs ≡ length words))
+    go : (o : Option Member) (rest : Option (List Member)) → ((m : Member) → o ≡ Some m → IsMemberAt l m) → ((xs : List Member) → rest ≡ Some xs →
+        AllByRecursion (IsMemberAt l) xs × (length xs ≡ length words))
         → option_and_then (λ m. option_map (λ xs. m ∷ xs) rest) o ≡ Some ms → AllByRecursion (IsMemberAt l) ms × (length ms ≡ length (word ∷ words))
     go None rest one more e = cc
     go (Some m) None one more e = cc

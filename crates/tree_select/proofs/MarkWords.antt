@@ -1,5 +1,6 @@
 -- The bits of words as marks.
-use Rattle.std.proofs.Common.{◌≡◌, ◌≢◌, ℕ, ◌+◌, ◌-◌, ◌*◌, ◌/◌, ◌%◌, ◌^◌, ◌<◌, Bool, true, false, List, Vec, length, replicate, get_or, refl, ap, arith, inl, inr, sym, ◌∙◌, eq-eqb, w64}
+use Rattle.std.proofs.Common.{◌≡◌, ◌≢◌, ℕ, ◌+◌, ◌-◌, ◌*◌, ◌/◌, ◌%◌, ◌^◌, ◌<◌, Bool, true, false, List, Vec, length, replicate, get_or, refl, ap}
+use Rattle.std.proofs.Common.{arith, inl, inr, sym, ◌∙◌, eq-eqb, w64}
 use Rattle.std.specs.Prelude.{nat_eq}
 use Rattle.std.specs.Vec.{with_items}
 use Rattle.std.specs.Int.{bit_at, trailing_zeros}
@@ -40,12 +41,14 @@ bit_more_rest word k i l ne = ap (λ b. nat_eq b 1) (bit_at_set_other w64 word k
 -- where one word changes in one bit, so does one mark
 module _ (words words' : List ℕ) (n word : ℕ) (l : n < length words * 64) (is : words' ≡ set words (n / 64) word) where
   changed : (k : ℕ) → k / 64 ≡ n / 64 → get_or words' (k / 64) 0 ≡ word
-  changed k same = ap (λ (ws : List ℕ). get_or ws (k / 64) 0) is ∙ ap (λ q. get_or (set words (n / 64) word) q 0) same ∙ get_or-set_same words (n / 64) word 0 (omega (arith, l))
+  changed k same = ap (λ (ws : List ℕ). get_or ws (k / 64) 0) is ∙ ap (λ q. get_or (set words (n / 64) word) q 0) same ∙ get_or-set_same words (n / 64) word
+      0 (omega (arith, l))
 
   pub changed_own : (on : Bool) → has_bit word (n % 64) ≡ on → is_marked words' n ≡ on
   changed_own on e = ap (λ w. has_bit w (n % 64)) (changed n refl) ∙ e
 
-  pub changed_rest : ((i : ℕ) → i < 64 → i ≢ n % 64 → has_bit word i ≡ has_bit (get_or words (n / 64) 0) i) → (k : ℕ) → k ≢ n → is_marked words' k ≡ is_marked words k
+  pub changed_rest : ((i : ℕ) → i < 64 → i ≢ n % 64 → has_bit word i ≡ has_bit (get_or words (n / 64) 0) i) → (k : ℕ) → k ≢ n →
+      is_marked words' k ≡ is_marked words k
   changed_rest rest k ne = elim (cases_eq (k / 64) (n / 64)) [
     | inl same ↦
         ap (λ w. has_bit w (k % 64)) (changed k same)
@@ -62,9 +65,11 @@ length-marks words count = length-map-range_with_len (is_marked words) 0 count
 pub mark_at : (words : List ℕ) (count k : ℕ) → k < count → get_or (marks_by words count) k false ≡ is_marked words k
 mark_at words count k l = get_or-map-range_with_len (is_marked words) 0 count k k false l (omega arith)
 
-pub marks_set : (words words' : List ℕ) (count n : ℕ) (on : Bool) → n < count → is_marked words' n ≡ on → ((k : ℕ) → k ≢ n → is_marked words' k ≡ is_marked words k) → marks_by words' count ≡ set (marks_by words count) n on
+pub marks_set : (words words' : List ℕ) (count n : ℕ) (on : Bool) → n < count → is_marked words' n ≡ on → ((k : ℕ) → k ≢ n → is_marked words' k ≡ is_marked
+    words k) → marks_by words' count ≡ set (marks_by words count) n on
 marks_set words words' count n on l own rest =
-    ext_get_or false (marks_by words' count) (set (marks_by words count) n on) (length-marks words' count ∙ sym (length-set (marks_by words count) n on ∙ length-marks words count)) each
+    ext_get_or false (marks_by words' count) (set (marks_by words count) n on) (length-marks words' count ∙ sym (length-set (marks_by words count) n on
+    ∙ length-marks words count)) each
   where
     each : (k : ℕ) → k < length (marks_by words' count) → get_or (marks_by words' count) k false ≡ get_or (set (marks_by words count) n on) k false
     each k m =
@@ -73,7 +78,8 @@ marks_set words words' count n on l own rest =
         ∙ elim (cases_eq k n) [
           | inl same ↦
               ap (is_marked words') same ∙ own
-              ∙ sym (ap (λ i. get_or (set (marks_by words count) n on) i false) same ∙ get_or-set_same (marks_by words count) n on false (let e = length-marks words count in omega (arith, e, l)))
+              ∙ sym (ap (λ i. get_or (set (marks_by words count) n on) i false) same ∙ get_or-set_same (marks_by words count) n on false
+              (let e = length-marks words count in omega (arith, e, l)))
           | inr ne ↦ rest k ne ∙ sym (get_or-set_other (marks_by words count) n k on false ne ∙ mark_at words count k low)
         ]
 
@@ -85,7 +91,8 @@ all_marked count =
     (λ k m.
     let low : k < count = (let e = length-marks words count in omega (arith, e, m)) in
     mark_at words count k low
-    ∙ eq-eqb _ 1 (ap (λ w. bit_at w (k % 64)) (get_or-replicate (count / 64 + 1) (k / 64) (2 ^ 64 - 1) 0 (omega (arith, low))) ∙ bit_at_ones 64 (k % 64) (omega arith))
+    ∙ eq-eqb _ 1 (ap (λ w. bit_at w (k % 64)) (get_or-replicate (count / 64 + 1) (k / 64) (2 ^ 64 - 1) 0 (omega (arith, low))) ∙ bit_at_ones 64 (k % 64)
+    (omega arith))
     ∙ sym (get_or-replicate count k true false low))
 
 -- ---- the first mark of a word that a mask shows

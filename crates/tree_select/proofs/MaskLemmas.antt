@@ -1,5 +1,6 @@
 -- The groups of a level's packs, as they are made.
-use Rattle.std.proofs.Common.{◌≡◌, ◌≢◌, ℕ, ◌+◌, ◌*◌, ◌/◌, ◌%◌, ◌^◌, ◌<◌, ◌≤◌, ◌&&◌, nat_lt, Bool, true, false, List, [], ◌∷◌, ◌++◌, length, get_or, refl, ap, arith, inl, inr, sym, subst, le_refl, ◌∙◌}
+use Rattle.std.proofs.Common.{◌≡◌, ◌≢◌, ℕ, ◌+◌, ◌*◌, ◌/◌, ◌%◌, ◌^◌, ◌<◌, ◌≤◌, ◌&&◌, nat_lt, Bool, true, false, List, [], ◌∷◌, ◌++◌, length, get_or}
+use Rattle.std.proofs.Common.{refl, ap, arith, inl, inr, sym, subst, le_refl, ◌∙◌}
 use Rattle.std.specs.Int.RustNames.{bit_or}
 use Rattle.std.proofs.lemmas.Bool.{and_from, and_parts, both_ways, cases_eq, cases_lt, le-ltb, lt-ltb, ltb-true}
 use Rattle.std.proofs.lemmas.List.{get_or_append_left, get_or_push, length-append}
@@ -27,7 +28,8 @@ below_same j k ne = elim (cases_lt j k) [
 ]
 
 -- the bit at k is right, and the others are as before
-bits_more : (t : Tree) (l word k mask mask' : ℕ) → has_bit mask' k ≡ stands_at t l (word * 64 + k) → ((j : ℕ) → j ≢ k → has_bit mask' j ≡ has_bit mask j) → AreBitsBelow t l word k mask → AreBitsBelow t l word (k + 1) mask'
+bits_more : (t : Tree) (l word k mask mask' : ℕ) → has_bit mask' k ≡ stands_at t l (word * 64 + k) → ((j : ℕ) → j ≢ k → has_bit mask' j ≡ has_bit mask j) →
+    AreBitsBelow t l word k mask → AreBitsBelow t l word (k + 1) mask'
 bits_more t l word k mask mask' own rest was j m = elim (cases_eq j k) [
   | inl same ↦
       ap (has_bit mask') same ∙ own ∙ ap (λ x. stands_at t l (word * 64 + x)) (sym same)
@@ -36,11 +38,14 @@ bits_more t l word k mask mask' own rest was j m = elim (cases_eq j k) [
 ]
 
 -- a pack
-pub bits_put : (t : Tree) (l word k mask : ℕ) → k < 64 → stands_at t l (word * 64 + k) ≡ true → AreBitsBelow t l word k mask → AreBitsBelow t l word (k + 1) (bit_or mask (1 * 2 ^ k % 2 ^ 64))
-bits_put t l word k mask m on was = bits_more t l word k mask (bit_or mask (1 * 2 ^ k % 2 ^ 64)) (bit_more_own mask k m ∙ sym on) (λ j ne. bit_more_rest mask k j m ne) was
+pub bits_put : (t : Tree) (l word k mask : ℕ) → k < 64 → stands_at t l (word * 64 + k) ≡ true → AreBitsBelow t l word k mask → AreBitsBelow t l word (k + 1)
+    (bit_or mask (1 * 2 ^ k % 2 ^ 64))
+bits_put t l word k mask m on was = bits_more t l word k mask (bit_or mask (1 * 2 ^ k % 2 ^ 64)) (bit_more_own mask k m ∙ sym on) (λ j ne. bit_more_rest
+    mask k j m ne) was
 
 -- another node
-pub bits_skip : (t : Tree) (l word k mask : ℕ) → k < 64 → stands_at t l (word * 64 + k) ≡ false → AreBitsBelow t l word k mask → AreBitsBelow t l word (k + 1) mask
+pub bits_skip : (t : Tree) (l word k mask : ℕ) → k < 64 → stands_at t l (word * 64 + k) ≡ false → AreBitsBelow t l word k mask →
+    AreBitsBelow t l word (k + 1) mask
 bits_skip t l word k mask m off was =
     bits_more t l word k mask mask (was k m ∙ ap (λ (b : Bool). b && stands_at t l (word * 64 + k)) (le-ltb k k (le_refl k)) ∙ sym off) (λ j ne. refl) was
 
@@ -92,7 +97,8 @@ grown_none t groups l = record {
 }
 
 -- no pack has its mark in a word without a mask
-pub grown_skip : (t : Tree) (before groups : List Group) (l word mask : ℕ) → mask ≡ 0 → ((k : ℕ) → k < 64 → has_bit mask k ≡ stands_at t l (word * 64 + k)) → AreGrown t before groups l word → AreGrown t before groups l (word + 1)
+pub grown_skip : (t : Tree) (before groups : List Group) (l word mask : ℕ) → mask ≡ 0 → ((k : ℕ) → k < 64 → has_bit mask k ≡ stands_at t l (word * 64 + k))
+    → AreGrown t before groups l word → AreGrown t before groups l (word + 1)
 grown_skip t before groups l word mask none bits was = record {
   kept = was.kept;
   right = was.right;
@@ -101,7 +107,8 @@ grown_skip t before groups l word mask none bits was = record {
   found = λ p is at m. elim (cases_eq (p / 64) word) [
     | inl same ↦ absurd (
         let e : word * 64 + p % 64 ≡ p = omega (arith, same) in
-        both_ways (stands_at t l p) (ap (stands_at t l) (sym e) ∙ sym (bits (p % 64) (omega arith)) ∙ ap (λ (n : ℕ). has_bit n (p % 64)) none ∙ no_bits (p % 64)) (stands_from t l p is at))
+        both_ways (stands_at t l p) (ap (stands_at t l) (sym e) ∙ sym (bits (p % 64) (omega arith)) ∙ ap (λ (n : ℕ). has_bit n (p % 64)) none
+        ∙ no_bits (p % 64)) (stands_from t l p is at))
     | inr ne ↦ was.found p is at (omega (arith, m, ne))
   ];
 }
@@ -145,18 +152,35 @@ module _ (t : Tree) (before groups : List Group) (l : ℕ) (group : Group) (h : 
           | inr ne ↦ (let e = ap (λ (x : Group). x.word) (old_at i (old i m ne)) in let w = was.rising g i low up (old i m ne) in omega (arith, e, at, w))
         ];
     found = λ p is at m. elim (cases_eq (p / 64) group.word) [
-      | inl same ↦ (length groups, (let a = was.kept.long in omega (arith, a)), (let e = long in omega (arith, e)), subst (λ (x : Group). IsOf x p) (sym (new_at (length groups) refl)) (shown t l group h p is at same))
-      | inr ne ↦ (let f = was.found p is at (omega (arith, m, ne)) in (f.0, f.1, (let e = long in let b = f.2 in omega (arith, e, b)), subst (λ (x : Group). IsOf x p) (sym (old_at f.0 f.2)) f.3))
+      | inl same ↦ (
+        length groups,
+        (let a = was.kept.long in omega (arith, a)),
+        (let e = long in omega (arith, e)),
+        subst (λ (x : Group). IsOf x p)
+            (sym (new_at (length groups) refl)) (shown t l group h p is at same),
+      )
+      | inr ne ↦ (let f = was.found p is at (omega (arith, m, ne)) in (
+        f.0,
+        f.1,
+        (let e = long in let b = f.2 in omega (arith, e, b)),
+        subst (λ (x : Group). IsOf x p) (sym (old_at f.0 f.2)) f.3,
+      ))
     ];
   }
 
 -- all words are gone through
-pub grown_all : (t : Tree) (before groups : List Group) (l words : ℕ) (span : Span) → length t.nodes / 64 < words → span.from ≡ length before → span.to ≡ length groups → AreGrown t before groups l words → IsSpanOf t groups l span
+pub grown_all : (t : Tree) (before groups : List Group) (l words : ℕ) (span : Span) → length t.nodes / 64 < words → span.from ≡ length before →
+    span.to ≡ length groups → AreGrown t before groups l words → IsSpanOf t groups l span
 grown_all t before groups l words span all from to was = record {
   within = omega (arith, to);
   each = λ g low m. was.right g (omega (arith, from, low)) (omega (arith, to, m));
   rising = λ g h low up m. was.rising g h (omega (arith, from, low)) up (omega (arith, to, m));
-  found = λ p is at. (let b = is.0 in let f = was.found p is at (omega (arith, all, b)) in (f.0, (let low = f.1 in omega (arith, from, low)), (let m = f.2 in omega (arith, to, m)), f.3));
+  found = λ p is at. (let b = is.0 in let f = was.found p is at (omega (arith, all, b)) in (
+    f.0,
+    (let low = f.1 in omega (arith, from, low)),
+    (let m = f.2 in omega (arith, to, m)),
+    f.3,
+  ));
 }
 
 -- ---- the groups of all levels
@@ -166,14 +190,16 @@ pub span_kept : (t : Tree) (groups groups' : List Group) (l : ℕ) (span : Span)
 span_kept t groups groups' l span kept was = record {
   within = (let a = was.within in let b = kept.long in omega (arith, a, b));
   each = λ g low m. subst (IsGroupOf t l) (sym (same g m)) (was.each g low m);
-  rising = λ g h low up m. (let w = was.rising g h low up m in let a = ap (λ (x : Group). x.word) (same g (omega (arith, up, m))) in let b = ap (λ (x : Group). x.word) (same h m) in omega (arith, w, a, b));
+  rising = λ g h low up m. (let w = was.rising g h low up m in let a = ap (λ (x : Group). x.word) (same g (omega (arith, up, m))) in
+      let b = ap (λ (x : Group). x.word) (same h m) in omega (arith, w, a, b));
   found = λ p is at. (let f = was.found p is at in (f.0, f.1, f.2, subst (λ (x : Group). IsOf x p) (sym (same f.0 f.2)) f.3));
 }
   where
     same : (g : ℕ) → g < span.to → group_at groups' g ≡ group_at groups g
     same g m = kept.same g (let a = was.within in omega (arith, a, m))
 
-pub spans_more : (t : Tree) (groups groups' : List Group) (spans : List Span) (l : ℕ) (span : Span) → IsKept groups groups' → IsSpanOf t groups' l span → AreSpansOf t groups spans l → AreSpansOf t groups' (spans ++ span ∷ []) (l + 1)
+pub spans_more : (t : Tree) (groups groups' : List Group) (spans : List Span) (l : ℕ) (span : Span) → IsKept groups groups' → IsSpanOf t groups' l span →
+    AreSpansOf t groups spans l → AreSpansOf t groups' (spans ++ span ∷ []) (l + 1)
 spans_more t groups groups' spans l span kept own was = record {
   long = (let a = length-append spans (span ∷ []) in let b = was.long in omega (arith, a, b));
   each = λ k m. elim (cases_eq k l) [

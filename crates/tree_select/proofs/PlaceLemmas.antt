@@ -42,7 +42,8 @@ abbrev pub ArePlacedBelow : Tree → ℕ → ℕ → List ℕ → Type 0
 ArePlacedBelow t l i places = (k : ℕ) → k < i → get_or places (get_or (packs_at t l) k 0) 0 ≡ k
 
 -- one pack more
-pub placed_more : (t : Tree) (l i p : ℕ) (places : List ℕ) → i < length (packs_at t l) → p ≡ get_or (packs_at t l) i 0 → p < length places → ArePlacedBelow t l i places → ArePlacedBelow t l (i + 1) (set places p i)
+pub placed_more : (t : Tree) (l i p : ℕ) (places : List ℕ) → i < length (packs_at t l) → p ≡ get_or (packs_at t l) i 0 → p < length places →
+    ArePlacedBelow t l i places → ArePlacedBelow t l (i + 1) (set places p i)
 placed_more t l i p places b at within was k m = elim (cases_eq k i) [
   | inl same ↦ ap (λ x. get_or (set places p i) x 0) (ap (λ j. get_or (packs_at t l) j 0) same ∙ sym at) ∙ get_or-set_same places p i 0 within ∙ sym same
   | inr ne ↦
@@ -51,13 +52,15 @@ placed_more t l i p places b at within was k m = elim (cases_eq k i) [
 ]
 
 -- another node keeps what it had
-pub others_keep : (t : Tree) (h : IsTree t) (l i p : ℕ) (before places : List ℕ) → i < length (packs_at t l) → p ≡ get_or (packs_at t l) i 0 → ((n : ℕ) → level t n ≢ l → get_or places n 0 ≡ get_or before n 0) →
+pub others_keep : (t : Tree) (h : IsTree t) (l i p : ℕ) (before places : List ℕ) → i < length (packs_at t l) → p ≡ get_or (packs_at t l) i 0 →
+    ((n : ℕ) → level t n ≢ l → get_or places n 0 ≡ get_or before n 0) →
     (n : ℕ) → level t n ≢ l → get_or (set places p i) n 0 ≡ get_or before n 0
 others_keep t h l i p before places b at was n ne =
     get_or-set_other places p n i 0 (λ e. ne (ap (level t) (e ∙ at) ∙ (pack_of_level t h l i b).1)) ∙ was n ne
 
 -- the packs of one level more
-pub places_more : (t : Tree) (h : IsTree t) (l : ℕ) (before places : List ℕ) → length places ≡ length before → ArePlacedBelow t l (length (packs_at t l)) places →
+pub places_more : (t : Tree) (h : IsTree t) (l : ℕ) (before places : List ℕ) → length places ≡ length before → ArePlacedBelow t l (length (packs_at t l))
+    places →
     ((n : ℕ) → level t n ≢ l → get_or places n 0 ≡ get_or before n 0) → ArePlacesOf t before l → ArePlacesOf t places (l + 1)
 places_more t h l before places long own others was = record {
   long = long ∙ was.long;
@@ -71,7 +74,8 @@ places_more t h l before places long own others was = record {
 
 -- ---- the first marked pack of a level
 
-module _ (t : Tree) (h : IsTree t) (m : Masks) (masks : AreMasksOf t m) (l : ℕ) (low : l < t.levels) (span : Span) (s : IsSpanOf t m.groups l span) (stale : List Bool) where
+module _ (t : Tree) (h : IsTree t) (m : Masks) (masks : AreMasksOf t m) (l : ℕ) (low : l < t.levels) (span : Span) (s : IsSpanOf t m.groups l span)
+    (stale : List Bool) where
   -- none of the groups has a marked pack
   pub none_marked : AreUnmarked m.groups stale span.from span.to → (k : ℕ) → k < length (packs_at t l) → get_or stale (get_or (packs_at t l) k 0) false ≡ false
   none_marked none k b =
@@ -79,7 +83,8 @@ module _ (t : Tree) (h : IsTree t) (m : Masks) (masks : AreMasksOf t m) (l : ℕ
       let f = s.found (get_or (packs_at t l) k 0) of.0 of.1 in
       none f.0 (get_or (packs_at t l) k 0) f.1 f.2 f.3
 
-  module _ (g : ℕ) (from_g : span.from ≤ g) (to_g : g < span.to) (before : AreUnmarked m.groups stale span.from g) (n : NodeId) (first : IsFirstIn (group_at m.groups g) stale (Some n)) where
+  module _ (g : ℕ) (from_g : span.from ≤ g) (to_g : g < span.to) (before : AreUnmarked m.groups stale span.from g) (n : NodeId)
+      (first : IsFirstIn (group_at m.groups g) stale (Some n)) where
     its : IsPack t n.0 × (level t n.0 ≡ l)
     its = pack_of_group t l (group_at m.groups g) (s.each g from_g to_g) n.0 first.0
 
@@ -88,7 +93,8 @@ module _ (t : Tree) (h : IsTree t) (m : Masks) (masks : AreMasksOf t m) (l : ℕ
 
     -- its place in the level
     there : (i : ℕ) × (i < length (packs_at t l)) × (get_or (packs_at t l) i 0 ≡ n.0)
-    there = (let P : ℕ → Type 0 = λ x. (i : ℕ) × (i < length (packs_at t x)) × (get_or (packs_at t x) i 0 ≡ n.0) in subst P its.1 (place_in_level t h n.0 its.0))
+    there = (let P : ℕ → Type 0 = λ x. (i : ℕ) × (i < length (packs_at t x)) × (get_or (packs_at t x) i 0 ≡ n.0) in
+        subst P its.1 (place_in_level t h n.0 its.0))
 
     place_is : get_or m.places n.0 0 ≡ there.0
     place_is = ap (λ p. get_or m.places p 0) (sym there.2) ∙ masks.places.each l there.0 low there.1

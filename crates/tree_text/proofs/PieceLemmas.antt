@@ -1,5 +1,6 @@
 -- Lines that go out in pieces.
-use Rattle.std.proofs.Common.{◌≡◌, ◌∙◌, ℕ, ◌+◌, ◌<◌, ◌≤◌, List, [], ◌∷◌, ◌++◌, length, take, drop, get_or, map, codes, decimal, Option, Result, Ok, Err, ap, subst, sym, append_assoc, append-nil}
+use Rattle.std.proofs.Common.{◌≡◌, ◌∙◌, ℕ, ◌+◌, ◌<◌, ◌≤◌, List, [], ◌∷◌, ◌++◌, length, take, drop, get_or, map, codes, decimal, Option, Result, Ok}
+use Rattle.std.proofs.Common.{Err, ap, subst, sym, append_assoc, append-nil}
 use Rattle.std.specs.List.{flat_map, range_with_len}
 use Rattle.std.specs.Io.KnownBytes.{Appends}
 use Rattle.std.proofs.KnownBytes.{Appends-trans}
@@ -19,11 +20,13 @@ use Rattle.tree_text.specs.Pieces.{Added}
 -- ---- texts of one part for each item, once all are written
 
 -- the items of a list
-pub items_done : {A T E : Type 0} (f : A → List ℕ) (xs : List A) (i : ℕ) (a b : Option (List ℕ)) (v : T) → length xs ≤ i → Appends a b (flat_map f (take i xs)) → Wrote {E = E} a b (flat_map f xs) (Ok v)
+pub items_done : {A T E : Type 0} (f : A → List ℕ) (xs : List A) (i : ℕ) (a b : Option (List ℕ)) (v : T) → length xs ≤ i →
+    Appends a b (flat_map f (take i xs)) → Wrote {E = E} a b (flat_map f xs) (Ok v)
 items_done {A = A} f xs i a b v done wrote = record { ok = subst (λ (ys : List A). Appends a b (flat_map f ys)) (take_all i xs done) wrote; err = tt }
 
 -- the numbers from 0 on
-pub numbers_done : {T E : Type 0} (f : ℕ → List ℕ) (n i : ℕ) (a b : Option (List ℕ)) (v : T) → i ≡ n → Appends a b (flat_map f (range_with_len 0 i)) → Wrote {E = E} a b (flat_map f (range_with_len 0 n)) (Ok v)
+pub numbers_done : {T E : Type 0} (f : ℕ → List ℕ) (n i : ℕ) (a b : Option (List ℕ)) (v : T) → i ≡ n → Appends a b (flat_map f (range_with_len 0 i)) →
+    Wrote {E = E} a b (flat_map f (range_with_len 0 n)) (Ok v)
 numbers_done f n i a b v done wrote = record { ok = subst (λ (k : ℕ). Appends a b (flat_map f (range_with_len 0 k))) done wrote; err = tt }
 
 -- ---- texts added one after the other
@@ -33,7 +36,8 @@ pub added_none : (a : Option (List ℕ)) (line : List ℕ) → Added a a line []
 added_none a line = record { took = ([], sym (append-nil line), took_none a) }
 
 -- a text after what was added so far
-pub added_then : (a b c : Option (List ℕ)) (first text more line next : List ℕ) → Added a b first text line → Added b c line more next → Added a c first (text ++ more) next
+pub added_then : (a b c : Option (List ℕ)) (first text more line next : List ℕ) → Added a b first text line → Added b c line more next →
+    Added a c first (text ++ more) next
 added_then a b c first text more line next so_far now =
     let (xs, parts, took) = so_far.took in
     let (ys, then, later) = now.took in
@@ -46,7 +50,8 @@ added_then a b c first text more line next so_far now =
     }
 
 -- the line went out in part
-pub added_cut : (a b c : Option (List ℕ)) (first text rest line : List ℕ) → Added a b first text line → TookPart b c line → TookPart a c (first ++ (text ++ rest))
+pub added_cut : (a b c : Option (List ℕ)) (first text rest line : List ℕ) → Added a b first text line → TookPart b c line →
+    TookPart a c (first ++ (text ++ rest))
 added_cut a b c first text rest line so_far part =
     let (xs, parts, took) = so_far.took in
     let whole = append_assoc xs line rest in
@@ -54,7 +59,8 @@ added_cut a b c first text rest line so_far part =
     rw (← is) (part_cut a c (xs ++ line) rest (part_then a b c xs line took part))
 
 -- the line went out
-pub added_wrote : {T E : Type 0} (a b c : Option (List ℕ)) (first text line : List ℕ) (r : Result T E) → Added a b first text line → Wrote b c line r → Wrote a c (first ++ text) r
+pub added_wrote : {T E : Type 0} (a b c : Option (List ℕ)) (first text line : List ℕ) (r : Result T E) → Added a b first text line → Wrote b c line r →
+    Wrote a c (first ++ text) r
 added_wrote a b c first text line (Ok v) so_far wrote =
     let (xs, parts, took) = so_far.took in
     record { ok = rw (← parts) (Appends-trans a b c xs line took wrote.ok); err = tt }
@@ -72,7 +78,8 @@ pack_start p n = codes "pack " ++ decimal (rate p.tree n)
 abbrev pub spaced_words : PlanContents → List NodeId → List ℕ
 spaced_words p ids = flat_map (λ (id : NodeId). 32 ∷ member_word p id.0) ids
 
-pub pack_line_is : (p : PlanContents) (n : ℕ) (ids : List NodeId) → numbers ids ≡ members p.tree n → pack_line p n ≡ pack_start p n ++ (spaced_words p ids ++ 10 ∷ [])
+pub pack_line_is : (p : PlanContents) (n : ℕ) (ids : List NodeId) → numbers ids ≡ members p.tree n → pack_line p n ≡ pack_start p
+    n ++ (spaced_words p ids ++ 10 ∷ [])
 unfolding pack_line
 pack_line_is p n ids all =
     let spaced : ℕ → List ℕ = λ x. 32 ∷ member_word p x in
@@ -86,9 +93,11 @@ pack_line_is p n ids all =
     ∙ ap (λ text. codes "pack " ++ (decimal (rate p.tree n) ++ (text ++ 10 ∷ []))) same
 
 -- a member more
-pub words_next : (p : PlanContents) (ids : List NodeId) (i : ℕ) (x : NodeId) → i < length ids → x ≡ get_or ids i x → spaced_words p (take (i + 1) ids) ≡ spaced_words p (take i ids) ++ (32 ∷ member_word p x.0)
+pub words_next : (p : PlanContents) (ids : List NodeId) (i : ℕ) (x : NodeId) → i < length ids → x ≡ get_or ids i x →
+    spaced_words p (take (i + 1) ids) ≡ spaced_words p (take i ids) ++ (32 ∷ member_word p x.0)
 words_next p ids i x within at =
-    let one = flat_map-append (λ (id : NodeId). 32 ∷ member_word p id.0) (take i ids) (x ∷ []) ∙ ap (λ text. spaced_words p (take i ids) ++ text) (append-nil (32 ∷ member_word p x.0)) in
+    let one = flat_map-append (λ (id : NodeId). 32 ∷ member_word p id.0) (take i ids) (x ∷ []) ∙ ap (λ text. spaced_words p (take i ids) ++ text)
+    (append-nil (32 ∷ member_word p x.0)) in
     rw (take_more ids i x within, ← at) one
 
 module _ (p : PlanContents) (n : ℕ) (ids : List NodeId) (all : numbers ids ≡ members p.tree n) where
@@ -100,7 +109,8 @@ module _ (p : PlanContents) (n : ℕ) (ids : List NodeId) (all : numbers ids ≡
       rw (words_next p ids i x within at) (added_then a b c (pack_start p n) (spaced_words p (take i ids)) (32 ∷ member_word p x.0) line next so_far now)
 
   -- the members before one, and then a failure
-  pub pack_cut : (i : ℕ) (a b c : Option (List ℕ)) (line : List ℕ) → Added a b (pack_start p n) (spaced_words p (take i ids)) line → TookPart b c line → TookPart a c (pack_line p n)
+  pub pack_cut : (i : ℕ) (a b c : Option (List ℕ)) (line : List ℕ) → Added a b (pack_start p n) (spaced_words p (take i ids)) line → TookPart b c line →
+      TookPart a c (pack_line p n)
   pack_cut i a b c line so_far part =
       let before : List ℕ = spaced_words p (take i ids) in
       let after : List ℕ = spaced_words p (drop i ids) in

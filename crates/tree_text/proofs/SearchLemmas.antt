@@ -18,7 +18,8 @@ use Rattle.tree_text.specs.Text.{is_idle_leaf, idle_node, place_in_level}
 abbrev pub idles_before : Tree → ℕ → ℕ
 idles_before t n = sum_to n (λ x. bit (is_leaf (kind_at t x) && is_idle (leaf t x)))
 
-pub idles_next : (t : Tree) (n count next : ℕ) (b : Bool) → b ≡ (is_leaf (kind_at t n) && is_idle (leaf t n)) → count ≡ idles_before t n → next ≡ count + bit b → next ≡ idles_before t (n + 1)
+pub idles_next : (t : Tree) (n count next : ℕ) (b : Bool) → b ≡ (is_leaf (kind_at t n) && is_idle (leaf t n)) → count ≡ idles_before t n →
+    next ≡ count + bit b → next ≡ idles_before t (n + 1)
 idles_next t n count next b is before step =
     let e : n + 1 ≡ suc n = omega arith in
     rw e (step ∙ ap₂ (λ i j. i + j) before (ap bit is))
@@ -34,7 +35,8 @@ idle_found t k n l none is = position_or_len_is (λ (x : Node). is_idle_leaf k (
 -- where none is, no rate is told
 pub idle_absent : (t : Tree) (k n : ℕ) → n ≡ length t.nodes → NoneBefore t k n → rate t (idle_node t k) ≡ 0
 idle_absent t k n e none =
-    let is : idle_node t k ≡ n = position_or_len_is (λ (x : Node). is_idle_leaf k (leaf_of x.kind)) t.nodes n no_node (omega (arith, e)) none (λ l. absurd (omega (arith, e, l))) in
+    let is : idle_node t k ≡ n = position_or_len_is (λ (x : Node). is_idle_leaf k (leaf_of x.kind)) t.nodes n no_node (omega (arith, e)) none
+    (λ l. absurd (omega (arith, e, l))) in
     ap (rate t) is ∙ ap (λ (x : Node). x.rate) (get_or-eq_default t.nodes no_node (omega (arith, e)))
 
 -- ---- packs
@@ -55,7 +57,8 @@ abbrev pub OthersBefore : Tree → ℕ → ℕ → ℕ → Type 0
 OthersBefore t l p i = (k : ℕ) → k < i → (get_or (packs_at t l) k 0 == p) ≡ false
 
 -- the first pack of its level that is pack p
-pub place_found : (t : Tree) (p l i : ℕ) → l ≡ level t p → i < length (packs_at t l) → OthersBefore t l p i → get_or (packs_at t l) i 0 ≡ p → place_in_level t p ≡ i
+pub place_found : (t : Tree) (p l i : ℕ) → l ≡ level t p → i < length (packs_at t l) → OthersBefore t l p i → get_or (packs_at t l) i 0 ≡ p →
+    place_in_level t p ≡ i
 place_found t p l i is b others here =
     ap (λ m. position_or_len (λ (q : ℕ). q == p) (packs_at t m)) (sym is)
     ∙ position_or_len_is (λ (q : ℕ). q == p) (packs_at t l) i 0 (omega (arith, b)) others (λ _. eq-eqb (get_or (packs_at t l) i 0) p here)

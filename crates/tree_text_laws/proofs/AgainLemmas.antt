@@ -1,5 +1,7 @@
 -- The lines of a tree text are read again, part by part.
-use Rattle.std.proofs.Common.{◌≡◌, ◌≢◌, ℕ, zero, suc, ◌+◌, ◌-◌, ◌^◌, ◌<◌, ◌≤◌, ◌&&◌, true, false, cond, eqb, leb, List, [], ◌∷◌, ◌++◌, map, length, Some, None, option_map, option_and_then, Ok, codes, decimal, refl, ap, arith, sym, subst, ◌∙◌, append_assoc, append-nil, length-append}
+use Rattle.std.proofs.Common.{◌≡◌, ◌≢◌, ℕ, zero, suc, ◌+◌, ◌-◌, ◌^◌, ◌<◌, ◌≤◌, ◌&&◌, true, false, cond, eqb, leb, List, [], ◌∷◌, ◌++◌, map, length}
+use Rattle.std.proofs.Common.{Some, None, option_map, option_and_then, Ok, codes, decimal, refl, ap, arith, sym, subst, ◌∙◌, append_assoc, append-nil}
+use Rattle.std.proofs.Common.{length-append}
 use Rattle.std.specs.Prelude.{is_some}
 use Rattle.std.specs.List.{AllByRecursion, flat_map, list_all}
 use Rattle.std.proofs.lemmas.Bool.{cond-true, cond-false, ne_eqb, eq-eqb, and_from, and_parts, le-leb}
@@ -15,7 +17,8 @@ use Rattle.trace_check.specs.declared.head_lines.Head.{Head}
 use Rattle.trace_check.specs.Steps.{and_then, step, next_line, within}
 use Rattle.trace_check.proofs.ScaleTest.{is_scale_from}
 use Rattle.trace_check.proofs.TaskTripLemmas.{tasks_again}
-use Rattle.trace_check.proofs.WordLemmas.{IsWord, word_of, name_word, decimal_word, bare, lines_again, line_again, cut_word, word_then, number_again, number_is, next_number, next_any, start_past}
+use Rattle.trace_check.proofs.WordLemmas.{IsWord, word_of, name_word, decimal_word, bare, lines_again, line_again, cut_word, word_then, number_again}
+use Rattle.trace_check.proofs.WordLemmas.{number_is, next_number, next_any, start_past}
 use Rattle.tree_check.specs.declared.written.Member.{Member}
 use Rattle.tree_check.specs.declared.written.Member.TheVariants.{Name, Number}
 use Rattle.tree_check.specs.Written.{Pack, Written}
@@ -24,7 +27,8 @@ use Rattle.tree_reader.specs.Packs.{pack_from, pack_of, number_behind, second_nu
 use Rattle.tree_reader.specs.Reading.{tree_head, idles_from, packs_from, level_from, levels_from, ended, is_count, body, reading}
 use Rattle.tree_reader.proofs.WordLemmas.{words_cut, words_last}
 use Rattle.tree_reader.proofs.ReadingLemmas.{head_is, idles_more, packs_more, levels_more, levels_done, body_levels, reading_tasks, judged}
-use Rattle.tree_text_laws.proofs.TreeLines.{word_at, line_of_pack, lines_of_levels, lines_of_idles, last_lines, tree_lines, IsWritable, IsPackLine, IsLevelLines, AreLevels, IsText}
+use Rattle.tree_text_laws.proofs.TreeLines.{word_at, line_of_pack, lines_of_levels, lines_of_idles, last_lines, tree_lines, IsWritable, IsPackLine}
+use Rattle.tree_text_laws.proofs.TreeLines.{IsLevelLines, AreLevels, IsText}
 use Rattle.text_words.proofs.Parts.{behind, onto_first}
 
 -- ---- words
@@ -82,7 +86,8 @@ members_again l (m ∷ ms) h = rw (member_again l m h.0, members_again l ms h.1)
 
 -- ---- packs
 
-pack_again : (scale l : ℕ) (p : Pack) → scale ≤ 2 ^ 94 → IsPackLine scale l p → pack_of scale l (bare (codes "pack") (decimal p.rate ∷ map (word_at l) p.members)) ≡ Some p
+pack_again : (scale l : ℕ) (p : Pack) → scale ≤ 2 ^ 94 → IsPackLine scale l p → pack_of scale l (bare (codes "pack") (decimal p.rate ∷ map (word_at l)
+    p.members)) ≡ Some p
 pack_again scale l p small h = go p.members h.some h.each (members_again l p.members h.each)
   where
     fits : p.rate < 10 ^ 64
@@ -97,8 +102,10 @@ pack_again scale l p small h = go p.members h.some h.each (members_again l p.mem
         let words = words_again (word_at l m) (map (word_at l) ms) (member_word l m each.0) (member_words l ms each.1) in
         ap (λ o. option_and_then (λ rest. option_and_then (pack_from scale l) (cut_space rest)) o) first
         ∙ ap (λ o. option_and_then (pack_from scale l) o) second
-        ∙ ap (λ o. option_and_then (λ r. option_map (λ xs. record { rate = r; members = xs }) (members_from l (words_of (bare (word_at l m) (map (word_at l) ms))))) (option_and_then (within 0 scale) o)) (number_of_decimal p.rate fits)
-        ∙ ap (λ o. option_and_then (λ r. option_map (λ xs. record { rate = r; members = xs }) (members_from l (words_of (bare (word_at l m) (map (word_at l) ms))))) o) (within_again 0 scale p.rate (omega arith) h.within)
+        ∙ ap (λ o. option_and_then (λ r. option_map (λ xs. record { rate = r; members = xs })
+        (members_from l (words_of (bare (word_at l m) (map (word_at l) ms))))) (option_and_then (within 0 scale) o)) (number_of_decimal p.rate fits)
+        ∙ ap (λ o. option_and_then (λ r. option_map (λ xs. record { rate = r; members = xs })
+        (members_from l (words_of (bare (word_at l m) (map (word_at l) ms))))) o) (within_again 0 scale p.rate (omega arith) h.within)
         ∙ ap (λ ws. option_map (λ xs. record { rate = p.rate; members = xs }) (members_from l ws)) words
         ∙ ap (λ o. option_map (λ xs. record { rate = p.rate; members = xs }) o) again
 
@@ -115,7 +122,8 @@ packs_again scale l first done [] lines small h = ap (λ ps. Ok (ps, lines_again
 packs_again scale l first done (p ∷ packs) lines small h =
     let some : 0 < length (p ∷ packs) = omega arith in
     let rest : length (p ∷ packs) - 1 ≡ length packs = omega arith in
-    packs_more scale l first (length (p ∷ packs)) done _ _ _ p some (pack_line_again scale l p (map (line_of_pack l) packs ++ lines) small h.0) (pack_again scale l p small h.0)
+    packs_more scale l first (length (p ∷ packs)) done _ _ _ p some (pack_line_again scale l p (map (line_of_pack l) packs ++ lines) small h.0)
+    (pack_again scale l p small h.0)
     ∙ ap (λ n. packs_from scale l first n (done ++ p ∷ []) (lines_again (map (line_of_pack l) packs ++ lines))) rest
     ∙ packs_again scale l first (done ++ p ∷ []) packs lines small h.1
     ∙ ap (λ ps. Ok (ps, lines_again lines)) (append_assoc done (p ∷ []) packs)
@@ -139,7 +147,8 @@ second_again word k low high n h small above below fits =
 
 -- ---- idle leaves
 
-idles_again : (first scale : ℕ) (done rates : List ℕ) (lines : List (List ℕ)) → scale ≤ 2 ^ 94 → length done + length rates ≤ 1024 → AllByRecursion (λ r. (1 ≤ r) × (r ≤ scale)) rates
+idles_again : (first scale : ℕ) (done rates : List ℕ) (lines : List (List ℕ)) → scale ≤ 2 ^ 94 → length done + length rates ≤ 1024 →
+    AllByRecursion (λ r. (1 ≤ r) × (r ≤ scale)) rates
     → idles_from first scale (length rates) done (lines_again (lines_of_idles (length done) rates ++ lines)) ≡ Ok (done ++ rates, lines_again lines)
 idles_again first scale done [] lines small few h = ap (λ rs. Ok (rs, lines_again lines)) (sym (append-nil done))
 idles_again first scale done (r ∷ rates) lines small few h =
@@ -152,9 +161,12 @@ idles_again first scale done (r ∷ rates) lines small few h =
     let later = lines_of_idles (length done + 1) rates ++ lines in
     let line = numbers_again (codes "idle") (length done) r later (word_of (codes "idle") refl) k (omega (arith, high, small)) in
     let second = second_again (codes "idle") (length done) 1 scale r (word_of (codes "idle") refl) k h.0.0 h.0.1 (omega (arith, small)) in
-    let read : next_line (first + length done) (second_number (codes "idle") (length done) 1 scale) (lines_again (numbers_line (codes "idle") (length done) r ∷ later)) ≡ Ok (r, lines_again later) =
-    ap (next_line (first + length done) (second_number (codes "idle") (length done) 1 scale)) line ∙ ap (λ o. step (first + length done) o (lines_again later)) second in
-    idles_more first scale (length (r ∷ rates)) (first + length done) (length done) done (lines_again (numbers_line (codes "idle") (length done) r ∷ later)) (lines_again later) r some refl refl read
+    let read : next_line (first + length done) (second_number (codes "idle") (length done) 1 scale) (lines_again (numbers_line (codes "idle") (length done)
+    r ∷ later)) ≡ Ok (r, lines_again later) =
+    ap (next_line (first + length done) (second_number (codes "idle") (length done) 1 scale)) line ∙ ap (λ o. step (first + length done) o
+    (lines_again later)) second in
+    idles_more first scale (length (r ∷ rates)) (first + length done) (length done) done (lines_again (numbers_line (codes "idle") (length done) r ∷ later))
+    (lines_again later) r some refl refl read
     ∙ ap (λ n. idles_from first scale n (done ++ r ∷ []) (lines_again later)) rest
     ∙ ap (λ n. idles_from first scale (length rates) (done ++ r ∷ []) (lines_again (lines_of_idles n rates ++ lines))) next
     ∙ idles_again first scale (done ++ r ∷ []) rates lines small (omega (arith, few, long)) h.1
@@ -164,10 +176,12 @@ idles_again first scale done (r ∷ rates) lines small few h =
 
 -- a line that begins with `level` doesn't begin with `levels`
 not_end : (m n : ℕ) → is_some (after_word (codes "levels") (bare (codes "level") (decimal m ∷ decimal n ∷ []))) ≡ false
-not_end m n = ap (λ o. is_some (option_and_then (behind (codes "levels")) o)) (cut_word (codes "level") (decimal m) (decimal n ∷ []) (word_of (codes "level") refl))
+not_end m n = ap (λ o. is_some (option_and_then (behind (codes "levels")) o)) (cut_word (codes "level") (decimal m) (decimal n ∷ [])
+    (word_of (codes "level") refl))
 
 level_again : (scale l at : ℕ) (packs : List Pack) (lines : List (List ℕ)) → scale ≤ 2 ^ 94 → l < 10 ^ 64 → IsLevelLines scale l packs
-    → level_from scale l at (bare (codes "level") (decimal l ∷ decimal (length packs) ∷ [])) (lines_again (map (line_of_pack l) packs ++ lines)) ≡ Ok (packs, lines_again lines)
+    → level_from scale l at (bare (codes "level") (decimal l ∷ decimal (length packs) ∷ [])) (lines_again (map (line_of_pack l) packs ++ lines)) ≡ Ok
+    (packs, lines_again lines)
 level_again scale l at packs lines small fits h =
     let second = second_again (codes "level") l 1 1280 (length packs) (word_of (codes "level") refl) fits h.some h.few (omega arith) in
     let rest = lines_again (map (line_of_pack l) packs ++ lines) in
@@ -186,8 +200,10 @@ end_again scale at levels some fits =
     ∙ ap (λ n. ended at levels n []) (number_is (codes "levels") (length levels) (word_of (codes "levels") refl) fits)
     ∙ cond-true _ _ _ counts
 
-levels_again : (scale at : ℕ) (done levels : List (List Pack)) → scale ≤ 2 ^ 94 → 0 < length done + length levels → length done + length levels < 10 ^ 64 → AreLevels scale (length done) levels
-    → levels_from scale at 0 done (lines_again (lines_of_levels (length done) levels ++ number_line (codes "levels") (length (done ++ levels)) ∷ [])) ≡ Ok (done ++ levels)
+levels_again : (scale at : ℕ) (done levels : List (List Pack)) → scale ≤ 2 ^ 94 → 0 < length done + length levels → length done + length levels < 10 ^ 64 →
+    AreLevels scale (length done) levels
+    → levels_from scale at 0 done (lines_again (lines_of_levels (length done) levels ++ number_line (codes "levels") (length (done ++ levels)) ∷ [])) ≡ Ok
+    (done ++ levels)
 levels_again scale at done [] small some fits h =
     let all = append-nil done in
     let P : List (List Pack) → Type 0 = λ ls. levels_from scale at 0 done (lines_again (number_line (codes "levels") (length ls) ∷ [])) ≡ Ok ls in
@@ -200,14 +216,19 @@ levels_again scale at done (packs ∷ levels) small some fits h =
     let all = append_assoc done (packs ∷ []) levels in
     let last = number_line (codes "levels") (length (done ++ packs ∷ levels)) ∷ [] in
     let later = lines_of_levels (length done + 1) levels ++ last in
-    let joined : (map (line_of_pack (length done)) packs ++ lines_of_levels (length done + 1) levels) ++ last ≡ map (line_of_pack (length done)) packs ++ later =
+    let joined : (map (line_of_pack (length done)) packs ++ lines_of_levels (length done + 1) levels) ++ last ≡ map (line_of_pack (length done))
+    packs ++ later =
     append_assoc (map (line_of_pack (length done)) packs) (lines_of_levels (length done + 1) levels) last in
-    let line = numbers_again (codes "level") (length done) (length packs) (map (line_of_pack (length done)) packs ++ later) (word_of (codes "level") refl) k (omega (arith, few)) in
+    let line = numbers_again (codes "level") (length done) (length packs) (map (line_of_pack (length done)) packs ++ later) (word_of (codes "level") refl) k
+    (omega (arith, few)) in
     ap (λ ls. levels_from scale at 0 done (lines_again (numbers_line (codes "level") (length done) (length packs) ∷ ls))) joined
-    ∙ levels_more scale at done _ _ (lines_again later) _ packs line (not_end (length done) (length packs)) (level_again scale (length done) at packs later small k h.0)
+    ∙ levels_more scale at done _ _ (lines_again later) _ packs line (not_end (length done) (length packs)) (level_again scale (length done) at packs later
+    small k h.0)
     ∙ ap (λ n. levels_from scale (at + (1 + length packs)) 0 (done ++ packs ∷ []) (lines_again (lines_of_levels n levels ++ last))) next
-    ∙ ap (λ ls. levels_from scale (at + (1 + length packs)) 0 (done ++ packs ∷ []) (lines_again (lines_of_levels (length (done ++ packs ∷ [])) levels ++ number_line (codes "levels") (length ls) ∷ []))) (sym all)
-    ∙ levels_again scale (at + (1 + length packs)) (done ++ packs ∷ []) levels small (omega (arith, long)) (omega (arith, fits, long)) (subst (λ n. AreLevels scale n levels) next h.1)
+    ∙ ap (λ ls. levels_from scale (at + (1 + length packs)) 0 (done ++ packs ∷ []) (lines_again (lines_of_levels (length (done ++ packs ∷ []))
+    levels ++ number_line (codes "levels") (length ls) ∷ []))) (sym all)
+    ∙ levels_again scale (at + (1 + length packs)) (done ++ packs ∷ []) levels small (omega (arith, long)) (omega (arith, fits, long))
+    (subst (λ n. AreLevels scale n levels) next h.1)
     ∙ ap Ok all
 
 -- ---- the whole
@@ -221,7 +242,8 @@ body_again w h =
     let few = h.few_idles in
     let some = h.some_level in
     let fits = h.few_levels in
-    body_levels w.set w.scale (6 + n) (7 + n) (length w.idles) (7 + n + length w.idles) (lines_again (last_lines w)) (lines_again idles) (lines_again levels) w.idles (Ok w.levels)
+    body_levels w.set w.scale (6 + n) (7 + n) (length w.idles) (7 + n + length w.idles) (lines_again (last_lines w)) (lines_again idles)
+    (lines_again levels) w.idles (Ok w.levels)
     refl (next_number (6 + n) (codes "idles") 0 1024 (length w.idles) idles (word_of (codes "idles") refl) (omega arith) few (omega arith))
     refl (idles_again (7 + n) w.scale [] w.idles levels h.scale_fits (omega (arith, few)) h.idles)
     refl (levels_again w.scale (7 + n + length w.idles) [] w.levels h.scale_fits (omega (arith, some)) (omega (arith, fits)) h.levels)
@@ -231,7 +253,8 @@ none_done [] = tt
 none_done (t ∷ tasks) = (tt, none_done tasks)
 
 head_again : (w : Written) (lines : List (List ℕ)) → IsText w
-    → tree_head (lines_again (number_line (codes "run-tree") 1 ∷ (number_line (codes "processors") w.set.processors ∷ (number_line (codes "horizon") w.set.horizon
+    → tree_head (lines_again (number_line (codes "run-tree") 1 ∷ (number_line (codes "processors") w.set.processors ∷ (number_line (codes "horizon")
+    w.set.horizon
     ∷ (number_line (codes "scale") w.scale ∷ (number_line (codes "tasks") (length w.set.tasks) ∷ lines))))))
     ≡ Ok (record { version = One; processors = w.set.processors; horizon = w.set.horizon; scale = w.scale; tasks = length w.set.tasks }, lines_again lines)
 head_again w lines h =
@@ -247,7 +270,8 @@ head_again w lines h =
     let three = number_line (codes "horizon") w.set.horizon ∷ four in
     let two = number_line (codes "processors") w.set.processors ∷ three in
     let one = number_line (codes "run-tree") 1 ∷ two in
-    head_is (lines_again one) (lines_again two) (lines_again three) (lines_again four) (lines_again five) (lines_again lines) 1 w.set.processors w.set.horizon w.scale (length w.set.tasks)
+    head_is (lines_again one) (lines_again two) (lines_again three) (lines_again four) (lines_again five) (lines_again lines) 1 w.set.processors
+    w.set.horizon w.scale (length w.set.tasks)
     (next_number 1 (codes "run-tree") 1 1 1 two (word_of (codes "run-tree") refl) (omega arith) (omega arith) (omega arith))
     (next_number 2 (codes "processors") 1 32 w.set.processors three (word_of (codes "processors") refl) some few (omega arith))
     (next_number 3 (codes "horizon") 1 (2 ^ 32 - 1) w.set.horizon four (word_of (codes "horizon") refl) starts ends (omega arith))

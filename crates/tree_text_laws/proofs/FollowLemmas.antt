@@ -23,7 +23,8 @@ use Rattle.tree_text_laws.proofs.PlanLines.{text_is_lines}
 use Rattle.tree_text_laws.proofs.LimitLemmas.{is_text, is_written, compiled_few}
 use Rattle.tree_text_laws.proofs.SamePlans.{moved, same_renumbered}
 
-pub read_again : (s : SetContents) (t : Tree) → IsLawful s → AreOnTime s.tasks → IsTreeOf s t → t.scale ≤ 2 ^ 94 → idle_count t ≤ 1024 → IsReadAgain (record { set = s; tree = t })
+pub read_again : (s : SetContents) (t : Tree) → IsLawful s → AreOnTime s.tasks → IsTreeOf s t → t.scale ≤ 2 ^ 94 → idle_count t ≤ 1024 →
+    IsReadAgain (record { set = s; tree = t })
 read_again s t lawful on_time is small few =
     let w : Written = written_of (record { set = s; tree = t }) in
     let written = is_written s t lawful is few small in
@@ -39,7 +40,8 @@ read_again s t lawful on_time is small few =
       rounds_same = λ stop. rounds_count_same s.tasks (moved s t (text_tree w) lawful is tree (sym again)) t (text_tree w) is.tree other leaves stop;
     }
 
-pub compiled_again : (s : SetContents) (scale : ℕ) → IsLawful s → AreOnTime s.tasks → IsScale s.tasks scale → scale ≤ 2 ^ 94 → Fits scale s → IsReadAgain (record { set = s; tree = tree_of scale s })
+pub compiled_again : (s : SetContents) (scale : ℕ) → IsLawful s → AreOnTime s.tasks → IsScale s.tasks scale → scale ≤ 2 ^ 94 → Fits scale s →
+    IsReadAgain (record { set = s; tree = tree_of scale s })
 compiled_again s scale lawful on_time is small fits =
     let rates = map (rate_of scale) s.tasks in
     let same = set_tree_scale s scale lawful is fits in

@@ -1,5 +1,6 @@
 -- What a tree text that is read says of its set.
-use Rattle.std.proofs.Common.{◌≡◌, ℕ, zero, suc, ◌+◌, ◌-◌, ◌^◌, ◌<◌, ◌≤◌, ◌&&◌, Bool, true, false, cond, leb, ltb, List, [], ◌∷◌, ◌++◌, length, Option, Some, None, option_and_then, Result, Ok, Err, codes, refl, ap, arith, sym, subst, length-append}
+use Rattle.std.proofs.Common.{◌≡◌, ℕ, zero, suc, ◌+◌, ◌-◌, ◌^◌, ◌<◌, ◌≤◌, ◌&&◌, Bool, true, false, cond, leb, ltb, List, [], ◌∷◌, ◌++◌, length}
+use Rattle.std.proofs.Common.{Option, Some, None, option_and_then, Result, Ok, Err, codes, refl, ap, arith, sym, subst, length-append}
 use Rattle.std.specs.List.{AllByRecursion}
 use Rattle.std.proofs.lemmas.Bool.{and_parts, leb-true, ltb-true}
 use Rattle.sched_base.specs.declared.sets.Task.{Task}
@@ -34,7 +35,8 @@ passed true x y e = (refl, cc)
 passed false x y e = cc
 
 -- what a line gave was read of it
-pub line_gave : {A : Type 0} (at : ℕ) (read : List ℕ → Option A) (lines rest : List (List ℕ)) (x : A) → next_line at read lines ≡ Ok (x, rest) → (line : List ℕ) × (read line ≡ Some x)
+pub line_gave : {A : Type 0} (at : ℕ) (read : List ℕ → Option A) (lines rest : List (List ℕ)) (x : A) → next_line at read lines ≡ Ok (x, rest) →
+    (line : List ℕ) × (read line ≡ Some x)
 line_gave at read [] rest x e = cc
 line_gave {A} at read (line ∷ more) rest x e = (line, go (read line) e)
   where
@@ -45,7 +47,8 @@ line_gave {A} at read (line ∷ more) rest x e = (line, go (read line) e)
         ap Some (ap (λ (p : A × List (List ℕ)). p.0) q)
 
 -- a number that was read is within its limits
-pub number_in : (at : ℕ) (word : List ℕ) (low high n : ℕ) (lines rest : List (List ℕ)) → next_line at (number_within word low high) lines ≡ Ok (n, rest) → (low ≤ n) × (n ≤ high)
+pub number_in : (at : ℕ) (word : List ℕ) (low high n : ℕ) (lines rest : List (List ℕ)) → next_line at (number_within word low high) lines ≡ Ok (n, rest) →
+    (low ≤ n) × (n ≤ high)
 number_in at word low high n lines rest e =
     let (line, f) = line_gave at (number_within word low high) lines rest n e in
     let (k, g, h) = and_then_some (number_after word line) (within low high) n f in
@@ -120,7 +123,8 @@ tasks_with done t a r = record {
   differ = free_from done t r.free a.differ;
 }
 
-pub tasks_read : (n : ℕ) (done tasks : List Task) (lines rest : List (List ℕ)) → tasks_from One n done lines ≡ Ok (tasks, rest) → AreRead done → AreRead tasks × (length tasks ≡ length done + n)
+pub tasks_read : (n : ℕ) (done tasks : List Task) (lines rest : List (List ℕ)) → tasks_from One n done lines ≡ Ok (tasks, rest) → AreRead done →
+    AreRead tasks × (length tasks ≡ length done + n)
 tasks_read zero done tasks lines rest e a =
     let q : ◌≡◌ {A = List Task × List (List ℕ)} (done, lines) (tasks, rest) = cc in
     let same : done ≡ tasks = ap (λ (p : List Task × List (List ℕ)). p.0) q in
@@ -154,7 +158,8 @@ head_read lines h e =
     let b = number_in 3 (codes "horizon") 1 (2 ^ 32 - 1) z.0 p.1 z.1 ez in
     let c = number_in 5 (codes "tasks") 0 256 t.0 s.1 t.1 et in
     let b1 = b.1 in
-    subst (λ (x : Head × List (List ℕ)). IsHead x.0) q (record { some_processors = a.0; few_processors = a.1; some_horizon = b.0; horizon_fits = omega (arith, b1); few_tasks = c.1 })
+    subst (λ (x : Head × List (List ℕ)). IsHead x.0) q
+    (record { some_processors = a.0; few_processors = a.1; some_horizon = b.0; horizon_fits = omega (arith, b1); few_tasks = c.1 })
 
 -- ---- the whole
 

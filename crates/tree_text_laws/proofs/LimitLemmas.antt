@@ -1,5 +1,6 @@
 -- What a plan is written as is within the limits of a text's form, where it has few idle leaves.
-use Rattle.std.proofs.Common.{◌≡◌, ℕ, zero, suc, ◌+◌, ◌-◌, ◌*◌, ◌^◌, ◌<◌, ◌≤◌, ◌&&◌, Bool, true, false, leb, List, [], ◌∷◌, map, max, eqb, length, get_or, refl, ap, arith, inl, inr, sym, subst, ◌∙◌, le_refl, eq-eqb, mul-le-mul_right}
+use Rattle.std.proofs.Common.{◌≡◌, ℕ, zero, suc, ◌+◌, ◌-◌, ◌*◌, ◌^◌, ◌<◌, ◌≤◌, ◌&&◌, Bool, true, false, leb, List, [], ◌∷◌, map, max, eqb, length}
+use Rattle.std.proofs.Common.{get_or, refl, ap, arith, inl, inr, sym, subst, ◌∙◌, le_refl, eq-eqb, mul-le-mul_right}
 use Rattle.std.proofs.Math.Nat.{pow-le-pow_right}
 use Rattle.std.specs.List.{AllByRecursion, range_with_len, sum_by}
 use Rattle.std.proofs.lemmas.Bool.{both_ways, cases_Bool, cases_eq, cases_lt, and_from, and_parts, le-leb, leb-true, ne_eqb}
@@ -12,10 +13,12 @@ use Rattle.sched_base.specs.Counting.{sum_to, bit}
 use Rattle.sched_base.specs.Sets.{SetContents, IsLawful, IsLawfulTask, no_task}
 use Rattle.sched_base.proofs.CountingLemmas.{bit_at, bit_off, find_below}
 use Rattle.sched_base.proofs.ListLemmas.{length-passing}
-use Rattle.sched_base.proofs.SumLemmas.{sum_to-add, sum_to-alone, sum_to-le, sum_to-mul, sum_to-one, sum_to-ones, sum_to-same, sum_to-swap, sum_to-zero, term-le-sum_to}
+use Rattle.sched_base.proofs.SumLemmas.{sum_to-add, sum_to-alone, sum_to-le, sum_to-mul, sum_to-one, sum_to-ones, sum_to-same, sum_to-swap}
+use Rattle.sched_base.proofs.SumLemmas.{sum_to-zero, term-le-sum_to}
 use Rattle.run_tree.specs.declared.kinds.Kind.{Kind}
 use Rattle.run_tree.specs.declared.kinds.Kind.TheVariants as kind
-use Rattle.run_tree.specs.Tree.{Tree, IsTree, IsPack, IsMember, IsLeaf, at_level, kind_at, is_leaf, is_pack, is_dual, leaf, leaf_of, level, primal_of, home, place, rate, member, members}
+use Rattle.run_tree.specs.Tree.{Tree, IsTree, IsPack, IsMember, IsLeaf, at_level, kind_at, is_leaf, is_pack, is_dual, leaf, leaf_of, level, primal_of}
+use Rattle.run_tree.specs.Tree.{home, place, rate, member, members}
 use Rattle.run_tree.specs.TreeOfSet.{IsTreeOf, idle_count, is_idle, is_real}
 use Rattle.run_tree.specs.Compiled.{task_items, tree_of_rates}
 use Rattle.run_tree.specs.Schedule.{packs_at}
@@ -65,7 +68,8 @@ module _ (t : Tree) (h : IsTree t) where
   -- so level 0 has few packs
   first_few : packs_of t 0 ≤ 2 * t.processors + 1
   first_few =
-      let each = sum_to-le (length t.nodes) (λ p. bit (at_level t 0 p) * t.scale) (λ p. bit (at_level t 0 p) * rate t p * 2 + bit (is_small p) * t.scale) (λ p b.
+      let each = sum_to-le (length t.nodes) (λ p. bit (at_level t 0 p) * t.scale) (λ p. bit (at_level t 0 p) * rate t p * 2 + bit (is_small p) * t.scale)
+      (λ p b.
       elim (cases_Bool (at_level t 0 p)) [
         | inr off ↦ (let z = bit_off (at_level t 0 p) off in let e = ap (λ w. w * t.scale) z in omega (arith, e))
         | inl on ↦
@@ -74,7 +78,8 @@ module _ (t : Tree) (h : IsTree t) where
             let r = ap (λ w. w * rate t p * 2) z in
             elim (cases_lt t.scale (2 * rate t p)) [
               | inl big ↦ omega (arith, e, r, big)
-              | inr low ↦ (let one = ap (λ w. w * t.scale) (bit_at (is_small p) (and_from (at_level t 0 p) (leb (2 * rate t p) t.scale) on (le-leb (2 * rate t p) t.scale low))) in omega (arith, e, r, one))
+              | inr low ↦ (let one = ap (λ w. w * t.scale) (bit_at (is_small p) (and_from (at_level t 0 p) (leb (2 * rate t p) t.scale) on
+                  (le-leb (2 * rate t p) t.scale low))) in omega (arith, e, r, one))
             ])
       ]) in
       let split = sum_to-add (length t.nodes) (λ p. bit (at_level t 0 p) * rate t p * 2) (λ p. bit (is_small p) * t.scale) in
@@ -101,7 +106,8 @@ module _ (t : Tree) (h : IsTree t) where
   packs_long : (l : ℕ) → length (packs_at t l) ≡ packs_of t l
   packs_long l =
       length-passing (at_level t l) (length t.nodes) 0
-      ∙ sum_to-same (length t.nodes) (λ k. bit (at_level t l (0 + k))) (λ k. bit (at_level t l k)) (λ k lk. (let e : 0 + k ≡ k = omega arith in ap (λ x. bit (at_level t l x)) e))
+      ∙ sum_to-same (length t.nodes) (λ k. bit (at_level t l (0 + k))) (λ k. bit (at_level t l k)) (λ k lk. (let e : 0 + k ≡ k = omega arith in
+      ap (λ x. bit (at_level t l x)) e))
 
   pub few_at : (l : ℕ) → t.processors ≤ 32 → length (packs_at t l) ≤ 65
   few_at l few =
@@ -161,13 +167,16 @@ module _ (s : SetContents) (t : Tree) (ls : IsLawful s) (h : IsTreeOf s t) where
           ∙ bit_at (eqb number number) (eq-eqb number number refl)
       by_leaf Empty e = sum_to-zero (idle_count t) (λ k. 0) (λ k lk. refl)
 
-      by_kind : (k : Kind) → kind_at t x ≡ k → sum_to (idle_count t) (λ n. bit (is_idle_leaf n (leaf_of (kind_at t x)))) ≡ bit (is_leaf (kind_at t x) && is_idle (leaf_of (kind_at t x)))
+      by_kind : (k : Kind) → kind_at t x ≡ k → sum_to (idle_count t) (λ n. bit (is_idle_leaf n (leaf_of (kind_at t x)))) ≡ bit (is_leaf (kind_at t x) &&
+          is_idle (leaf_of (kind_at t x)))
       by_kind (kind.Leaf f) e =
           ap (λ c. sum_to (idle_count t) (λ n. bit (is_idle_leaf n (leaf_of c)))) e ∙ by_leaf f e ∙ ap (λ c. bit (is_leaf c && is_idle (leaf_of c))) (sym e)
       by_kind (kind.Pack m) e =
-          ap (λ c. sum_to (idle_count t) (λ n. bit (is_idle_leaf n (leaf_of c)))) e ∙ sum_to-zero (idle_count t) (λ k. 0) (λ k lk. refl) ∙ ap (λ c. bit (is_leaf c && is_idle (leaf_of c))) (sym e)
+          ap (λ c. sum_to (idle_count t) (λ n. bit (is_idle_leaf n (leaf_of c)))) e ∙ sum_to-zero (idle_count t) (λ k. 0) (λ k lk. refl)
+          ∙ ap (λ c. bit (is_leaf c && is_idle (leaf_of c))) (sym e)
       by_kind (kind.Dual q) e =
-          ap (λ c. sum_to (idle_count t) (λ n. bit (is_idle_leaf n (leaf_of c)))) e ∙ sum_to-zero (idle_count t) (λ k. 0) (λ k lk. refl) ∙ ap (λ c. bit (is_leaf c && is_idle (leaf_of c))) (sym e)
+          ap (λ c. sum_to (idle_count t) (λ n. bit (is_idle_leaf n (leaf_of c)))) e ∙ sum_to-zero (idle_count t) (λ k. 0) (λ k lk. refl)
+          ∙ ap (λ c. bit (is_leaf c && is_idle (leaf_of c))) (sym e)
 
   all_numbers : sum_to (idle_count t) of_number ≡ idle_count t
   all_numbers =
@@ -187,7 +196,8 @@ module _ (s : SetContents) (t : Tree) (ls : IsLawful s) (h : IsTreeOf s t) where
   -- its rate is from 1 to the scale
   idle_rate : (k : ℕ) → k < idle_count t → (1 ≤ rate t (idle_node t k)) × (rate t (idle_node t k) ≤ t.scale)
   idle_rate k l = elim (find_below n_nodes (is_number k)) [
-    | inr none ↦ absurd (let some = each_number k l in let z = sum_to-zero n_nodes (λ x. bit (is_number k x)) (λ x lx. bit_off (is_number k x) (none x lx)) in omega (arith, some, z))
+    | inr none ↦ absurd (let some = each_number k l in let z = sum_to-zero n_nodes (λ x. bit (is_number k x)) (λ x lx. bit_off (is_number k x) (none x lx))
+        in omega (arith, some, z))
     | inl found ↦
         (let (x, lx, on) = found in
         let is = is_idle_true k (leaf_of (kind_at t x)) on in
@@ -266,7 +276,8 @@ module _ (s : SetContents) (t : Tree) (ls : IsLawful s) (h : IsTreeOf s t) where
             let most = few_packs (level t q.0) in
             omega (arith, low, most)
 
-    all_mapped : {A B : Type 0} (P : B → Type 0) (f : A → B) (d : A) (xs : List A) → ((i : ℕ) → i < length xs → P (f (get_or xs i d))) → AllByRecursion P (map f xs)
+    all_mapped : {A B : Type 0} (P : B → Type 0) (f : A → B) (d : A) (xs : List A) → ((i : ℕ) → i < length xs → P (f (get_or xs i d))) →
+        AllByRecursion P (map f xs)
     all_mapped P f d [] h = tt
     all_mapped P f d (x ∷ xs) h = (h 0 (omega arith), all_mapped P f d xs (λ i l. h (suc i) (omega (arith, l))))
 
@@ -274,7 +285,8 @@ module _ (s : SetContents) (t : Tree) (ls : IsLawful s) (h : IsTreeOf s t) where
     pack_line l q i at = record {
       within = h.tree.within q i;
       some = (let n = length-map (members t q) (λ x. kind_written p (kind_at t x)) in let m = h.tree.filled q i in omega (arith, n, m));
-      each = all_mapped (IsWritable l) (λ x. kind_written p (kind_at t x)) 0 (members t q) (λ k lk. (let m = h.tree.members_are q k i lk in writable l (member t q k) m.0 (ap (level t) m.1 ∙ at)));
+      each = all_mapped (IsWritable l) (λ x. kind_written p (kind_at t x)) 0 (members t q) (λ k lk. (let m = h.tree.members_are q k i lk in
+          writable l (member t q k) m.0 (ap (level t) m.1 ∙ at)));
     }
 
     pub level_lines : (l : ℕ) → l < t.levels → IsLevelLines t.scale l (map (pack_written p) (packs_at t l))
@@ -284,7 +296,8 @@ module _ (s : SetContents) (t : Tree) (ls : IsLawful s) (h : IsTreeOf s t) where
         record {
           some = (let (q, i, at) = h.tree.each_level l b in let (k, lk, e) = packs_all t l q i at in omega (arith, n, lk));
           few = omega (arith, n, most);
-          each = all_mapped (IsPackLine t.scale l) (pack_written p) 0 (packs_at t l) (λ i li. (let is = pack_in t l i li in pack_line l (get_or (packs_at t l) i 0) is.0 is.1));
+          each = all_mapped (IsPackLine t.scale l) (pack_written p) 0 (packs_at t l) (λ i li. (let is = pack_in t l i li in
+              pack_line l (get_or (packs_at t l) i 0) is.0 is.1));
         }
 
     level_list : (l n : ℕ) → l + n ≤ t.levels → AreLevels t.scale l (map (λ l. map (pack_written p) (packs_at t l)) (range_with_len l n))
@@ -326,7 +339,12 @@ module _ (s : SetContents) (t : Tree) (ls : IsLawful s) (h : IsTreeOf s t) where
     level_form l b =
         let i = level_lines l b in
         subst (IsWrittenLevel t.scale l) (sym (level_is s t ls h l b))
-        (record { some = i.some; few = i.few; each = each_weaker (IsPackLine t.scale l) (IsWrittenPack t.scale l) (map (pack_written p) (packs_at t l)) (pack_form l) i.each })
+        (record {
+          some = i.some;
+          few = i.few;
+          each = each_weaker (IsPackLine t.scale l) (IsWrittenPack t.scale l) (map (pack_written p) (packs_at t l))
+              (pack_form l) i.each;
+        })
 
     lines_few : (a n : ℕ) → a + n ≤ t.levels → sum_by (λ k. suc (length (level_at (written_of p) k))) (range_with_len a n) ≤ n * 66
     lines_few a zero b = omega arith
@@ -360,11 +378,13 @@ module _ (s : SetContents) (t : Tree) (ls : IsLawful s) (h : IsTreeOf s t) where
 -- ---- the compiled tree
 
 -- it has a task's leaf for each rate, and few idle ones
-pub compiled_few : (processors scale : ℕ) (rates : List ℕ) → RatesFit processors scale rates → idle_count (tree_of_rates processors scale rates) ≤ max processors (length rates)
+pub compiled_few : (processors scale : ℕ) (rates : List ℕ) → RatesFit processors scale rates → idle_count (tree_of_rates processors scale rates) ≤ max
+    processors (length rates)
 compiled_few processors scale rates h =
     let t = tree_of_rates processors scale rates in
     let amounts = given processors scale rates h in
-    let counted = idles_counted t.nodes ∙ ap idles_in (tree_leaves processors scale rates h) ∙ idles_in-append (item_entries (task_items 0 rates)) (idle_entries 0 amounts) in
+    let counted = idles_counted t.nodes ∙ ap idles_in (tree_leaves processors scale rates h) ∙ idles_in-append (item_entries (task_items 0 rates))
+    (idle_entries 0 amounts) in
     let tasks = tasks_no_idles 0 rates in
     let all = idles_all 0 amounts in
     let long = idle_leaves 0 amounts in

@@ -1,5 +1,6 @@
 -- The text of a plan's tree is made of the lines of what the plan is written as.
-use Rattle.std.proofs.Common.{◌≡◌, ℕ, zero, suc, ◌+◌, ◌<◌, List, [], ◌∷◌, ◌++◌, map, length, get_or, codes, decimal, refl, ap, ap₂, arith, sym, ◌∙◌, append_assoc, append-nil}
+use Rattle.std.proofs.Common.{◌≡◌, ℕ, zero, suc, ◌+◌, ◌<◌, List, [], ◌∷◌, ◌++◌, map, length, get_or, codes, decimal, refl, ap, ap₂, arith, sym, ◌∙◌}
+use Rattle.std.proofs.Common.{append_assoc, append-nil}
 use Rattle.std.specs.List.{flat_map, range_with_len}
 use Rattle.std.proofs.lemmas.Bool.{both_ways}
 use Rattle.std.proofs.lemmas.Fmt.{decimal_digit}
@@ -56,10 +57,12 @@ tasks_joined [] rest = refl
 tasks_joined (t ∷ tasks) rest =
     ap₂ (λ a b. a ++ b) (task_same t) (tasks_joined tasks rest) ∙ sym (append_assoc (task_line t) (flat_map task_line tasks) (joined rest))
 
-idles_joined : (t : Tree) (k n : ℕ) (rest : List (List ℕ)) → joined (lines_of_idles k (map (λ k. rate t (idle_node t k)) (range_with_len k n)) ++ rest) ≡ flat_map (idle_line t) (range_with_len k n) ++ joined rest
+idles_joined : (t : Tree) (k n : ℕ) (rest : List (List ℕ)) → joined (lines_of_idles k (map (λ k. rate t (idle_node t k)) (range_with_len k n)) ++ rest)
+    ≡ flat_map (idle_line t) (range_with_len k n) ++ joined rest
 idles_joined t k zero rest = refl
 idles_joined t k (suc n) rest =
-    ap (λ w. idle_line t k ++ w) (idles_joined t (k + 1) n rest) ∙ sym (append_assoc (idle_line t k) (flat_map (idle_line t) (range_with_len (k + 1) n)) (joined rest))
+    ap (λ w. idle_line t k ++ w) (idles_joined t (k + 1) n rest) ∙ sym (append_assoc (idle_line t k) (flat_map (idle_line t) (range_with_len (k + 1) n))
+    (joined rest))
 
 first_line : word_line (codes "run-tree 1") ≡ number_line (codes "run-tree") 1
 unfolding word_line number_line line_of
@@ -104,24 +107,29 @@ module _ (s : SetContents) (t : Tree) (h : IsTreeOf s t) where
       let m = h.tree.members_are q k i lk in
       word_same l (member t q k) m.0 (ap (level t) m.1 ∙ at) ∙ word_is p (member t q k))))
 
-  packs_joined : (l : ℕ) (rest : List (List ℕ)) → joined (map (line_of_pack l) (map (pack_written p) (packs_at t l)) ++ rest) ≡ flat_map (pack_line p) (packs_at t l) ++ joined rest
+  packs_joined : (l : ℕ) (rest : List (List ℕ)) → joined (map (line_of_pack l) (map (pack_written p) (packs_at t l)) ++ rest) ≡ flat_map (pack_line p)
+      (packs_at t l) ++ joined rest
   packs_joined l rest =
       ap (λ ls. joined (ls ++ rest)) (map_twice (line_of_pack l) (pack_written p) (packs_at t l))
       ∙ joined_map (λ q. line_of_pack l (pack_written p q)) (packs_at t l) rest
-      ∙ ap (λ w. w ++ joined rest) (flat_same (λ q. line_of_pack l (pack_written p q)) (pack_line p) (packs_at t l) (λ i li. (let is = pack_in t l i li in pack_same l (get_or (packs_at t l) i 0) is.0 is.1)))
+      ∙ ap (λ w. w ++ joined rest) (flat_same (λ q. line_of_pack l (pack_written p q)) (pack_line p) (packs_at t l) (λ i li. (let is = pack_in t l i li in
+      pack_same l (get_or (packs_at t l) i 0) is.0 is.1)))
 
   level_joined : (l : ℕ) (rest : List (List ℕ))
-      → joined (numbers_line (codes "level") l (length (map (pack_written p) (packs_at t l))) ∷ (map (line_of_pack l) (map (pack_written p) (packs_at t l)) ++ rest)) ≡ level_text p l ++ joined rest
+      → joined (numbers_line (codes "level") l (length (map (pack_written p) (packs_at t l))) ∷ (map (line_of_pack l) (map (pack_written p) (packs_at t l))
+      ++ rest)) ≡ level_text p l ++ joined rest
   level_joined l rest =
       ap₂ (λ a b. a ++ b) (ap (numbers_line (codes "level") l) (length-map (packs_at t l) (pack_written p))) (packs_joined l rest)
       ∙ sym (append_assoc (numbers_line (codes "level") l (length (packs_at t l))) (flat_map (pack_line p) (packs_at t l)) (joined rest))
 
   levels_joined : (l n : ℕ) (rest : List (List ℕ))
-      → joined (lines_of_levels l (map (λ l. map (pack_written p) (packs_at t l)) (range_with_len l n)) ++ rest) ≡ flat_map (level_text p) (range_with_len l n) ++ joined rest
+      → joined (lines_of_levels l (map (λ l. map (pack_written p) (packs_at t l)) (range_with_len l n)) ++ rest) ≡ flat_map (level_text p)
+      (range_with_len l n) ++ joined rest
   levels_joined l zero rest = refl
   levels_joined l (suc n) rest =
       let more = lines_of_levels (l + 1) (map (λ l. map (pack_written p) (packs_at t l)) (range_with_len (l + 1) n)) in
-      ap (λ ls. joined (numbers_line (codes "level") l (length (map (pack_written p) (packs_at t l))) ∷ ls)) (append_assoc (map (line_of_pack l) (map (pack_written p) (packs_at t l))) more rest)
+      ap (λ ls. joined (numbers_line (codes "level") l (length (map (pack_written p) (packs_at t l))) ∷ ls))
+      (append_assoc (map (line_of_pack l) (map (pack_written p) (packs_at t l))) more rest)
       ∙ level_joined l (more ++ rest)
       ∙ ap (λ w. level_text p l ++ w) (levels_joined (l + 1) n rest)
       ∙ sym (append_assoc (level_text p l) (flat_map (level_text p) (range_with_len (l + 1) n)) (joined rest))
@@ -139,22 +147,28 @@ module _ (s : SetContents) (t : Tree) (h : IsTreeOf s t) where
       append-nil (number_line (codes "levels") (length packs_written))
       ∙ ap (number_line (codes "levels")) (length-map-range_with_len (λ l. map (pack_written p) (packs_at t l)) 0 t.levels)
 
-  last_joined : joined (last_lines (written_of p)) ≡ idles_text t ++ (flat_map (level_text p) (range_with_len 0 t.levels) ++ number_line (codes "levels") t.levels)
+  last_joined : joined (last_lines (written_of p)) ≡ idles_text t ++ (flat_map (level_text p) (range_with_len 0 t.levels) ++ number_line (codes "levels")
+      t.levels)
   last_joined =
       let last = number_line (codes "levels") (length packs_written) ∷ [] in
-      let levels : joined (lines_of_levels 0 packs_written ++ last) ≡ flat_map (level_text p) (range_with_len 0 t.levels) ++ number_line (codes "levels") t.levels =
+      let levels : joined (lines_of_levels 0 packs_written ++ last) ≡ flat_map (level_text p) (range_with_len 0 t.levels) ++ number_line (codes "levels")
+      t.levels =
       levels_joined 0 t.levels last ∙ ap (λ w. flat_map (level_text p) (range_with_len 0 t.levels) ++ w) end_joined in
       let count : number_line (codes "idles") (length idle_rates) ≡ number_line (codes "idles") (idle_count t) =
       ap (number_line (codes "idles")) (length-map-range_with_len (λ k. rate t (idle_node t k)) 0 (idle_count t)) in
-      ap₂ (λ a b. a ++ b) count (idles_joined t 0 (idle_count t) (lines_of_levels 0 packs_written ++ last) ∙ ap (λ w. flat_map (idle_line t) (range_with_len 0 (idle_count t)) ++ w) levels)
+      ap₂ (λ a b. a ++ b) count (idles_joined t 0 (idle_count t) (lines_of_levels 0 packs_written ++ last)
+      ∙ ap (λ w. flat_map (idle_line t) (range_with_len 0 (idle_count t)) ++ w) levels)
       ∙ sym (append_assoc (number_line (codes "idles") (idle_count t)) (flat_map (idle_line t) (range_with_len 0 (idle_count t))) _)
 
   pub text_is_lines : joined (tree_lines (written_of p)) ≡ tree_text p
   text_is_lines =
-      let rest : joined (map (lines.task_line One) s.tasks ++ last_lines (written_of p)) ≡ flat_map task_line s.tasks ++ (idles_text t ++ (flat_map (level_text p) (range_with_len 0 t.levels) ++ number_line (codes "levels") t.levels)) =
+      let rest : joined (map (lines.task_line One) s.tasks ++ last_lines (written_of p)) ≡ flat_map task_line s.tasks ++ (idles_text
+      t ++ (flat_map (level_text p) (range_with_len 0 t.levels) ++ number_line (codes "levels") t.levels)) =
       tasks_joined s.tasks (last_lines (written_of p)) ∙ ap (λ w. flat_map task_line s.tasks ++ w) last_joined in
-      ap₂ (λ a r. a ++ (number_line (codes "processors") s.processors ++ (number_line (codes "horizon") s.horizon ++ (number_line (codes "scale") t.scale ++ (number_line (codes "tasks") (length s.tasks) ++ r))))) (sym first_line) rest
-      ∙ five (word_line (codes "run-tree 1")) (number_line (codes "processors") s.processors) (number_line (codes "horizon") s.horizon) (number_line (codes "scale") t.scale) (number_line (codes "tasks") (length s.tasks)) _
+      ap₂ (λ a r. a ++ (number_line (codes "processors") s.processors ++ (number_line (codes "horizon") s.horizon ++ (number_line (codes "scale")
+      t.scale ++ (number_line (codes "tasks") (length s.tasks) ++ r))))) (sym first_line) rest
+      ∙ five (word_line (codes "run-tree 1")) (number_line (codes "processors") s.processors) (number_line (codes "horizon") s.horizon)
+      (number_line (codes "scale") t.scale) (number_line (codes "tasks") (length s.tasks)) _
     where
       five : (a b c d e r : List ℕ) → a ++ (b ++ (c ++ (d ++ (e ++ r)))) ≡ (a ++ (b ++ (c ++ (d ++ e)))) ++ r
       five a b c d e r = simp append_assoc refl

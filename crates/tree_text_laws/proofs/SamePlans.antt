@@ -1,5 +1,6 @@
 -- Two reduction trees of a set that are written alike differ in the numbers of their nodes alone.
-use Rattle.std.proofs.Common.{◌≡◌, ℕ, suc, ◌+◌, ◌-◌, ◌<◌, true, false, map, length, get_or, Option, Some, None, option_map, refl, ap, ap₂, arith, inl, inr, sym, subst, ◌∙◌}
+use Rattle.std.proofs.Common.{◌≡◌, ℕ, suc, ◌+◌, ◌-◌, ◌<◌, true, false, map, length, get_or, Option, Some, None, option_map, refl, ap, ap₂, arith, inl}
+use Rattle.std.proofs.Common.{inr, sym, subst, ◌∙◌}
 use Rattle.std.specs.List.{position_from}
 use Rattle.std.specs.Str.{bytes_eq}
 use Rattle.std.proofs.lemmas.Bool.{both_ways}
@@ -10,7 +11,8 @@ use Rattle.sched_base.specs.declared.sets.Task as declared
 use Rattle.sched_base.specs.Sets.{SetContents, IsLawful, task_at}
 use Rattle.run_tree.specs.declared.kinds.Kind.{Kind}
 use Rattle.run_tree.specs.declared.kinds.Kind.TheVariants as kind
-use Rattle.run_tree.specs.Tree.{Tree, IsPack, IsMember, IsLeaf, IsDual, kind_at, is_leaf, is_pack, is_dual, leaf, leaf_of, level, level_of, primal, primal_of, rate, home, place, member, members, dual}
+use Rattle.run_tree.specs.Tree.{Tree, IsPack, IsMember, IsLeaf, IsDual, kind_at, is_leaf, is_pack, is_dual, leaf, leaf_of, level, level_of, primal}
+use Rattle.run_tree.specs.Tree.{primal_of, rate, home, place, member, members, dual}
 use Rattle.run_tree.specs.TreeOfSet.{IsTreeOf, task_id, is_real}
 use Rattle.run_tree.specs.Schedule.{packs_at}
 use Rattle.run_tree.specs.Plans.{PlanContents}
@@ -96,7 +98,8 @@ module _ (s : SetContents) (t u : Tree) (ls : IsLawful s) (ht : IsTreeOf s t) (h
       let e = ap (λ (k : Pack). length k.members) (other x i).written in
       omega (arith, a, b, e)
 
-  words_same : (x k : ℕ) → IsPack t x → k < length (members t x) → kind_written p (kind_at t (member t x k)) ≡ kind_written q (kind_at u (member u (pack_to x) k))
+  words_same : (x k : ℕ) → IsPack t x → k < length (members t x) → kind_written p (kind_at t (member t x k)) ≡ kind_written q
+      (kind_at u (member u (pack_to x) k))
   words_same x k i l =
       sym (get_or-map (λ m. kind_written p (kind_at t m)) (members t x) k 0 (Number 0) l)
       ∙ ap (λ (z : Pack). get_or z.members k (Number 0)) (other x i).written
@@ -330,8 +333,12 @@ module _ (s : SetContents) (t u : Tree) (ls : IsLawful s) (ht : IsTreeOf s t) (h
           let n = members_long h is in
           let k = ap (λ z. length (members u z)) e in
           let lk : place u y < length (members t h) = (let a = up.1 in omega (arith, a, n, k)) in
-          let m = ht.tree.members_are h (place u y) is lk in
-          (member t h (place u y), m.0.0, moved_member (member t h (place u y)) m.0 ∙ ap₂ (λ z c. member u (pack_to z) c) m.1 m.2 ∙ ap (λ z. member u z (place u y)) e ∙ up.2)
+          let m = ht.tree.members_are h (place u y) is lk in (
+            member t h (place u y),
+            m.0.0,
+            moved_member (member t h (place u y)) m.0 ∙ ap₂ (λ z c. member u (pack_to z) c) m.1 m.2
+                ∙ ap (λ z. member u z (place u y)) e ∙ up.2,
+          )
 
       go : KindOf (kind_at u y) → (x : ℕ) × (x < length t.nodes) × (moved x ≡ y)
       go (inl a_leaf) = of_member (l, not_pack_leaf (kind_at u y) a_leaf)
@@ -341,7 +348,8 @@ module _ (s : SetContents) (t u : Tree) (ls : IsLawful s) (ht : IsTreeOf s t) (h
   packed : (x : ℕ) → IsPack t x → members u (moved x) ≡ map moved (members t x)
   packed x i =
       ap (members u) (moved_pack x i)
-      ∙ ext_get_or 0 (members u (pack_to x)) (map moved (members t x)) (let n = members_long x i in let m = length-map (members t x) moved in omega (arith, n, m)) (λ k lk. (
+      ∙ ext_get_or 0 (members u (pack_to x)) (map moved (members t x)) (let n = members_long x i in let m = length-map (members t x) moved in
+      omega (arith, n, m)) (λ k lk. (
       let l : k < length (members t x) = (let n = members_long x i in omega (arith, lk, n)) in
       let m = ht.tree.members_are x k i l in
       sym (get_or-map moved (members t x) k 0 0 l ∙ moved_member (member t x k) m.0 ∙ ap₂ (λ z c. member u (pack_to z) c) m.1 m.2)))

@@ -1,5 +1,6 @@
 -- Trees that differ in the numbers of their nodes alone: the same nodes run at each tick.
-use Rattle.std.proofs.Common.{◌≡◌, ℕ, zero, suc, ◌+◌, ◌-◌, ◌*◌, ◌/◌, ◌<◌, ◌&&◌, not, Bool, true, false, List, [], ◌∷◌, ◌++◌, map, length, drop, get_or, count_by, cond, Option, Some, None, option_map, refl, ap, ap₂, arith, sym, subst, ◌∙◌}
+use Rattle.std.proofs.Common.{◌≡◌, ℕ, zero, suc, ◌+◌, ◌-◌, ◌*◌, ◌/◌, ◌<◌, ◌&&◌, not, Bool, true, false, List, [], ◌∷◌, ◌++◌, map, length, drop}
+use Rattle.std.proofs.Common.{get_or, count_by, cond, Option, Some, None, option_map, refl, ap, ap₂, arith, sym, subst, ◌∙◌}
 use Rattle.std.proofs.lemmas.List.{get_or-map}
 use Rattle.std.proofs.lemmas.List.FromFn.{get_or-map-range_with_len}
 use Rattle.std.proofs.lemmas.List.Sums.{sum_by-cons}
@@ -8,7 +9,8 @@ use Rattle.sched_base.specs.Candidates.{earliest, is_at}
 use Rattle.sched_base.specs.declared.candidates.Candidate.{Candidate}
 use Rattle.run_tree.specs.declared.kinds.Kind.{Kind}
 use Rattle.run_tree.specs.declared.kinds.Kind.TheVariants as kind
-use Rattle.run_tree.specs.Tree.{Tree, IsTree, IsPack, IsMember, kind_at, is_leaf, is_pack, is_dual, leaf, leaf_of, level, level_of, primal, rate, home, place, member, members, dual}
+use Rattle.run_tree.specs.Tree.{Tree, IsTree, IsPack, IsMember, kind_at, is_leaf, is_pack, is_dual, leaf, leaf_of, level, level_of, primal, rate}
+use Rattle.run_tree.specs.Tree.{home, place, member, members, dual}
 use Rattle.run_tree.specs.Windows.{window_begin, window_end}
 use Rattle.run_tree.specs.Boundaries.{any_of, member_boundary, pack_boundary, node_boundary, is_boundary}
 use Rattle.tree_text_laws.specs.Renumbered.{renumbered, IsRenumbered}
@@ -19,14 +21,17 @@ use Rattle.run_tree.specs.Runs.{is_picked, unless_dual, pack_runs, node_runs, ru
 pub same_function : {A B : Type 0} (f g : A → B) → ((x : A) → f x ≡ g x) → f ≡ g
 same_function f g h = λ i x. h x i
 
-pub map_moved : {A : Type 0} (f : ℕ → ℕ) (g k : ℕ → A) (xs : List ℕ) → ((i : ℕ) → i < length xs → g (f (get_or xs i 0)) ≡ k (get_or xs i 0)) → map g (map f xs) ≡ map k xs
+pub map_moved : {A : Type 0} (f : ℕ → ℕ) (g k : ℕ → A) (xs : List ℕ) → ((i : ℕ) → i < length xs → g (f (get_or xs i 0)) ≡ k (get_or xs i 0)) →
+    map g (map f xs) ≡ map k xs
 map_moved f g k [] h = refl
 map_moved f g k (x ∷ xs) h = ap₂ (λ y ys. y ∷ ys) (h 0 (omega arith)) (map_moved f g k xs (λ i l. h (suc i) (omega (arith, l))))
 
-any_moved : (f : ℕ → ℕ) (g k : ℕ → Bool) (xs : List ℕ) → ((i : ℕ) → i < length xs → g (f (get_or xs i 0)) ≡ k (get_or xs i 0)) → any_of g (map f xs) ≡ any_of k xs
+any_moved : (f : ℕ → ℕ) (g k : ℕ → Bool) (xs : List ℕ) → ((i : ℕ) → i < length xs → g (f (get_or xs i 0)) ≡ k (get_or xs i 0)) →
+    any_of g (map f xs) ≡ any_of k xs
 any_moved f g k [] h = refl
 any_moved f g k (x ∷ xs) h =
-    ap₂ (λ (b : Bool) (c : Bool). elim b as (λ y. Bool) [ true ↦ true | false ↦ c ]) (h 0 (omega arith)) (any_moved f g k xs (λ i l. h (suc i) (omega (arith, l))))
+    ap₂ (λ (b : Bool) (c : Bool). elim b as (λ y. Bool) [ true ↦ true | false ↦ c ]) (h 0 (omega arith))
+    (any_moved f g k xs (λ i l. h (suc i) (omega (arith, l))))
 
 -- ---- trees
 
@@ -97,11 +102,14 @@ module _ (of_leaf : Leaf → ℕ → Bool) (f : ℕ → ℕ) (t u : Tree) (h : I
   pack_boundary_same : (l p v : ℕ) → IsPack t p → pack_boundary of_leaf u l (f p) v ≡ pack_boundary of_leaf t l p v
   pack_boundary_same zero p v i =
       ap (any_of (λ x. member_boundary of_leaf (λ q w. false) (kind_at u x) v)) (r.packed p i)
-      ∙ any_moved f (λ x. member_boundary of_leaf (λ q w. false) (kind_at u x) v) (λ x. member_boundary of_leaf (λ q w. false) (kind_at t x) v) (members t p) (λ k lk. member_same (λ q w. false) (λ q w. false) (member t p k) v (member_in p k i lk).0 (λ q iq. refl))
+      ∙ any_moved f (λ x. member_boundary of_leaf (λ q w. false) (kind_at u x) v) (λ x. member_boundary of_leaf (λ q w. false) (kind_at t x) v)
+      (members t p) (λ k lk. member_same (λ q w. false) (λ q w. false) (member t p k) v (member_in p k i lk).0 (λ q iq. refl))
   pack_boundary_same (suc l) p v i =
       ap (any_of (λ x. member_boundary of_leaf (λ q w. pack_boundary of_leaf u l q w) (kind_at u x) v)) (r.packed p i)
-      ∙ any_moved f (λ x. member_boundary of_leaf (λ q w. pack_boundary of_leaf u l q w) (kind_at u x) v) (λ x. member_boundary of_leaf (λ q w. pack_boundary of_leaf t l q w) (kind_at t x) v) (members t p)
-      (λ k lk. member_same (λ q w. pack_boundary of_leaf u l q w) (λ q w. pack_boundary of_leaf t l q w) (member t p k) v (member_in p k i lk).0 (λ q iq. pack_boundary_same l q v iq))
+      ∙ any_moved f (λ x. member_boundary of_leaf (λ q w. pack_boundary of_leaf u l q w) (kind_at u x) v) (λ x. member_boundary of_leaf
+      (λ q w. pack_boundary of_leaf t l q w) (kind_at t x) v) (members t p)
+      (λ k lk. member_same (λ q w. pack_boundary of_leaf u l q w) (λ q w. pack_boundary of_leaf t l q w) (member t p k) v (member_in p k i lk).0
+      (λ q iq. pack_boundary_same l q v iq))
 
   pub boundary_same : (x : ℕ) → x < n_nodes → is_boundary of_leaf u (f x) ≡ is_boundary of_leaf t x
   unfolding is_boundary
@@ -146,7 +154,8 @@ module _ (of_leaf : Leaf → ℕ → Bool) (f : ℕ → ℕ) (t u : Tree) (h : I
   match_push (x ∷ us) [] a b m s = absurd m
   match_push (x ∷ us) (y ∷ ts) a b m s = (m.0, match_push us ts a b m.1 s)
 
-  match_count : (x : ℕ) (us ts : List (List Bool)) → x < n_nodes → Match us ts → count_by (λ tick. get_or tick (f x) false) us ≡ count_by (λ tick. get_or tick x false) ts
+  match_count : (x : ℕ) (us ts : List (List Bool)) → x < n_nodes → Match us ts → count_by (λ tick. get_or tick (f x) false) us ≡ count_by
+      (λ tick. get_or tick x false) ts
   match_count x [] [] l m = refl
   match_count x [] (b ∷ ts) l m = absurd m
   match_count x (a ∷ us) [] l m = absurd m
@@ -158,7 +167,8 @@ module _ (of_leaf : Leaf → ℕ → Bool) (f : ℕ → ℕ) (t u : Tree) (h : I
 
   -- what is left, by all that it hangs on
   abbrev left_by : ℕ → (ℕ → Bool) → ℕ → ℕ → (ℕ → ℕ) → ℕ
-  left_by rate boundary tick scale ran = rate * (window_end boundary (tick / scale) - window_begin boundary (tick / scale)) - ran (window_begin boundary (tick / scale) * scale)
+  left_by rate boundary tick scale ran = rate * (window_end boundary (tick / scale) - window_begin boundary (tick / scale)) - ran (window_begin boundary
+      (tick / scale) * scale)
 
   pub due_same : (us ts : List (List Bool)) → Match us ts → (x : ℕ) → x < n_nodes → due_left of_leaf u us (f x) ≡ due_left of_leaf t ts x
   due_same us ts m x l =
@@ -179,7 +189,8 @@ module _ (of_leaf : Leaf → ℕ → Bool) (f : ℕ → ℕ) (t u : Tree) (h : I
 
   -- ---- who runs
 
-  picked_same : (remain_u end_u remain_t end_t : ℕ → ℕ) → ((x : ℕ) → x < n_nodes → remain_u (f x) ≡ remain_t x) → ((x : ℕ) → x < n_nodes → end_u (f x) ≡ end_t x)
+  picked_same : (remain_u end_u remain_t end_t : ℕ → ℕ) → ((x : ℕ) → x < n_nodes → remain_u (f x) ≡ remain_t x) → ((x : ℕ) → x < n_nodes →
+      end_u (f x) ≡ end_t x)
       → (x : ℕ) → IsMember t x → is_picked u remain_u end_u (f x) ≡ is_picked t remain_t end_t x
   picked_same remain_u end_u remain_t end_t left ends x i =
       let up = (h.homes_are x i).0 in
@@ -194,16 +205,20 @@ module _ (of_leaf : Leaf → ℕ → Bool) (f : ℕ → ℕ) (t u : Tree) (h : I
   module _ (pick_u pick_t : ℕ → Bool) (same : (x : ℕ) → IsMember t x → pick_u (f x) ≡ pick_t x) where
     pack_same : (above p : ℕ) → IsPack t p → pack_runs u pick_u above (f p) ≡ pack_runs t pick_t above p
     pack_same zero p i = refl
-    pack_same (suc above) p i = ap (λ o. unless_dual o (λ d. pack_runs u pick_u above (home u d) && pick_u d)) (r.duals p i) ∙ go (λ q iq. pack_same above q iq) (dual t p) refl
+    pack_same (suc above) p i = ap (λ o. unless_dual o (λ d. pack_runs u pick_u above (home u d) && pick_u d)) (r.duals p i)
+        ∙ go (λ q iq. pack_same above q iq) (dual t p) refl
       where
-        go : ((q : ℕ) → IsPack t q → pack_runs u pick_u above (f q) ≡ pack_runs t pick_t above q) → (o : Option ℕ) → dual t p ≡ o → unless_dual (option_map f o) (λ d. pack_runs u pick_u above (home u d) && pick_u d) ≡ unless_dual o (λ d. pack_runs t pick_t above (home t d) && pick_t d)
+        go : ((q : ℕ) → IsPack t q → pack_runs u pick_u above (f q) ≡ pack_runs t pick_t above q) → (o : Option ℕ) → dual t p ≡ o →
+            unless_dual (option_map f o) (λ d. pack_runs u pick_u above (home u d) && pick_u d) ≡ unless_dual o (λ d. pack_runs t pick_t above (home t d) &&
+            pick_t d)
         go ih None e = refl
         go ih (Some d) e =
             let has = (h.has_dual p d i e).0 in
             let m : IsMember t d = (has.0, dual_no_pack (kind_at t d) has.1) in
             ap not (ap₂ (λ a b. a && b) (ap (pack_runs u pick_u above) (r.homes d m) ∙ ih (home t d) (h.homes_are d m).0) (same d m))
 
-    above_same : (x : ℕ) → IsMember t x → pack_runs u pick_u (u.levels - 1 - level u (home u (f x))) (home u (f x)) && pick_u (f x) ≡ (pack_runs t pick_t (t.levels - 1 - level t (home t x)) (home t x) && pick_t x)
+    above_same : (x : ℕ) → IsMember t x → pack_runs u pick_u (u.levels - 1 - level u (home u (f x))) (home u (f x)) && pick_u (f x) ≡ (pack_runs t pick_t
+        (t.levels - 1 - level t (home t x)) (home t x) && pick_t x)
     above_same x m =
         let up = (h.homes_are x m).0 in
         let home_is = r.homes x m in
@@ -229,15 +244,18 @@ module _ (of_leaf : Leaf → ℕ → Bool) (f : ℕ → ℕ) (t u : Tree) (h : I
 
   next_same : (us ts : List (List Bool)) → Match us ts → AreSame (next_tick of_leaf u us) (next_tick of_leaf t ts)
   next_same us ts m x l =
-      get_or-map-range_with_len (runs_now u (due_left of_leaf u us) (window_end_now of_leaf u us)) 0 (length u.nodes) (f x) (f x) false (r.low x l) (omega arith)
-      ∙ now_same (due_left of_leaf u us) (window_end_now of_leaf u us) (due_left of_leaf t ts) (window_end_now of_leaf t ts) (due_same us ts m) (end_same us ts m) x l
+      get_or-map-range_with_len (runs_now u (due_left of_leaf u us) (window_end_now of_leaf u us)) 0 (length u.nodes) (f x) (f x) false (r.low x l)
+      (omega arith)
+      ∙ now_same (due_left of_leaf u us) (window_end_now of_leaf u us) (due_left of_leaf t ts) (window_end_now of_leaf t ts) (due_same us ts m)
+      (end_same us ts m) x l
       ∙ sym (get_or-map-range_with_len (runs_now t (due_left of_leaf t ts) (window_end_now of_leaf t ts)) 0 (length t.nodes) x x false l (omega arith))
 
   pub ticks_same : (n : ℕ) → Match (ticks_below of_leaf u n) (ticks_below of_leaf t n)
   ticks_same zero = tt
   ticks_same (suc n) =
       let ih = ticks_same n in
-      match_push (ticks_below of_leaf u n) (ticks_below of_leaf t n) (next_tick of_leaf u (ticks_below of_leaf u n)) (next_tick of_leaf t (ticks_below of_leaf t n)) ih
+      match_push (ticks_below of_leaf u n) (ticks_below of_leaf t n) (next_tick of_leaf u (ticks_below of_leaf u n))
+      (next_tick of_leaf t (ticks_below of_leaf t n)) ih
       (next_same (ticks_below of_leaf u n) (ticks_below of_leaf t n) ih)
 
   -- a node runs where its other self does

@@ -1,5 +1,6 @@
 -- Trees that differ in the numbers of their nodes alone have the same schedule.
-use Rattle.std.proofs.Common.{◌≡◌, ℕ, zero, suc, ◌+◌, ◌%◌, ◌/◌, ◌<◌, ◌≤◌, ◌&&◌, ◌||◌, eqb, not, Bool, true, false, List, [], ◌∷◌, ◌++◌, map, length, filter, get_or, Option, Some, None, refl, ap, ap₂, arith, inl, inr, sym, ◌∙◌, eq-eqb}
+use Rattle.std.proofs.Common.{◌≡◌, ℕ, zero, suc, ◌+◌, ◌%◌, ◌/◌, ◌<◌, ◌≤◌, ◌&&◌, ◌||◌, eqb, not, Bool, true, false, List, [], ◌∷◌, ◌++◌, map, length}
+use Rattle.std.proofs.Common.{filter, get_or, Option, Some, None, refl, ap, ap₂, arith, inl, inr, sym, ◌∙◌, eq-eqb}
 use Rattle.std.specs.List.{range_with_len, list_any}
 use Rattle.std.proofs.lemmas.Bool.{cases_Bool, both_ways}
 use Rattle.std.proofs.lemmas.List.{length-map, get_or-map}
@@ -13,7 +14,8 @@ use Rattle.run_tree.specs.Tree.{Tree, IsTree, kind_at, is_leaf, is_pack, leaf, m
 use Rattle.run_tree.specs.Boundaries.{HaveBoundaries, set_boundary}
 use Rattle.run_tree.specs.Rounds.{is_task, task_begins, runs_dry, is_event, events_below}
 use Rattle.run_tree.specs.Runs.{runs, ticks_below}
-use Rattle.run_tree.specs.Schedule.{packs_at, packs_running, places_below, onto_at, leaf_among, leaf_on, shown, rows_from, round_rows, rows_of, rows_of_events, schedule, rounds}
+use Rattle.run_tree.specs.Schedule.{packs_at, packs_running, places_below, onto_at, leaf_among, leaf_on, shown, rows_from, round_rows, rows_of}
+use Rattle.run_tree.specs.Schedule.{rows_of_events, schedule, rounds}
 use Rattle.run_tree.proofs.TreeLemmas.{first_is_pack}
 use Rattle.sched_laws.proofs.PlacedPacks.{onto_within}
 use Rattle.tree_text_laws.specs.Renumbered.{IsRenumbered}
@@ -32,7 +34,8 @@ any_at p a (suc n) x low high e = elim (cases_Bool (p a)) [
 
 any_none : (p : ℕ → Bool) (a n : ℕ) → ((x : ℕ) → x < a + n → p x ≡ false) → list_any p (range_with_len a n) ≡ false
 any_none p a zero none = refl
-any_none p a (suc n) none = ap (λ b. b || list_any p (range_with_len (a + 1) n)) (none a (omega arith)) ∙ any_none p (a + 1) n (λ x l. none x (omega (arith, l)))
+any_none p a (suc n) none = ap (λ b. b || list_any p (range_with_len (a + 1) n)) (none a (omega arith)) ∙ any_none p (a + 1) n
+    (λ x l. none x (omega (arith, l)))
 
 any_found : (p : ℕ → Bool) (a n : ℕ) → list_any p (range_with_len a n) ≡ true → (x : ℕ) × (x < a + n) × (p x ≡ true)
 any_found p a zero e = absurd (both_ways false refl e)
@@ -43,7 +46,8 @@ any_found p a (suc n) e = elim (cases_Bool (p a)) [
 
 module _ (of_leaf : Leaf → ℕ → Bool) (f : ℕ → ℕ) (t u : Tree) (h : IsTree t) (r : IsRenumbered f t u) where
   -- the same of all nodes of both trees
-  any_same : (p q : ℕ → Bool) → ((x : ℕ) → x < length t.nodes → p (f x) ≡ q x) → list_any p (range_with_len 0 (length u.nodes)) ≡ list_any q (range_with_len 0 (length t.nodes))
+  any_same : (p q : ℕ → Bool) → ((x : ℕ) → x < length t.nodes → p (f x) ≡ q x) → list_any p (range_with_len 0 (length u.nodes)) ≡ list_any q
+      (range_with_len 0 (length t.nodes))
   any_same p q same = elim (cases_Bool (list_any q (range_with_len 0 (length t.nodes)))) [
     | inl on ↦ (
         let (x, l, e) = any_found q 0 (length t.nodes) on in
@@ -55,7 +59,8 @@ module _ (of_leaf : Leaf → ℕ → Bool) (f : ℕ → ℕ) (t u : Tree) (h : I
         let (x, lx, e) = r.all y (omega (arith, l)) in
         elim (cases_Bool (p y)) [
           | inr none ↦ none
-          | inl on ↦ absurd (both_ways (list_any q (range_with_len 0 (length t.nodes))) off (any_at q 0 (length t.nodes) x (omega arith) (omega (arith, lx)) (sym (same x lx) ∙ ap p e ∙ on)))
+          | inl on ↦ absurd (both_ways (list_any q (range_with_len 0 (length t.nodes))) off (any_at q 0 (length t.nodes) x (omega arith) (omega (arith, lx))
+              (sym (same x lx) ∙ ap p e ∙ on)))
         ])) ∙ sym off)
   ]
 
@@ -95,7 +100,8 @@ module _ (of_leaf : Leaf → ℕ → Bool) (f : ℕ → ℕ) (t u : Tree) (h : I
   running_same : (n : ℕ) → packs_running of_leaf u n ≡ packs_running of_leaf t n
   running_same n =
       ap (map (λ p. runs of_leaf u p n)) r.first_packs
-      ∙ map_moved f (λ p. runs of_leaf u p n) (λ p. runs of_leaf t p n) (packs_at t 0) (λ i l. runs_same of_leaf f t u h r (get_or (packs_at t 0) i 0) n (first_low i l))
+      ∙ map_moved f (λ p. runs of_leaf u p n) (λ p. runs of_leaf t p n) (packs_at t 0) (λ i l. runs_same of_leaf f t u h r (get_or (packs_at t 0) i 0) n
+      (first_low i l))
 
   places_same : (n : ℕ) → places_below of_leaf u n ≡ places_below of_leaf t n
   places_same zero = ap₂ unplaced (ap length r.first_packs ∙ length-map (packs_at t 0) f) r.processors_same
@@ -107,7 +113,8 @@ module _ (of_leaf : Leaf → ℕ → Bool) (f : ℕ → ℕ) (t u : Tree) (h : I
 
   -- ---- the leaves that run
 
-  among_same : (n : ℕ) (xs : List ℕ) → ((i : ℕ) → i < length xs → get_or xs i 0 < length t.nodes) → leaf_among of_leaf u n (map f xs) ≡ leaf_among of_leaf t n xs
+  among_same : (n : ℕ) (xs : List ℕ) → ((i : ℕ) → i < length xs → get_or xs i 0 < length t.nodes) → leaf_among of_leaf u n (map f xs) ≡ leaf_among of_leaf t
+      n xs
   among_same n [] low = refl
   among_same n (x ∷ xs) low =
       let l = low 0 (omega arith) in
@@ -132,10 +139,12 @@ module _ (of_leaf : Leaf → ℕ → Bool) (f : ℕ → ℕ) (t u : Tree) (h : I
 -- ---- rows
 
 module _ (tasks : List declared.Task) (f : ℕ → ℕ) (t u : Tree) (h : IsTree t) (r : IsRenumbered f t u) (leaves : HaveBoundaries (set_boundary tasks) t) where
-  rows_same : (start end p : ℕ) (onto : List (Option ℕ)) → ((i : ℕ) → 0 < held onto i → i < length (packs_at t 0)) → rows_from tasks u start end p onto ≡ rows_from tasks t start end p onto
+  rows_same : (start end p : ℕ) (onto : List (Option ℕ)) → ((i : ℕ) → 0 < held onto i → i < length (packs_at t 0)) → rows_from tasks u start end p
+      onto ≡ rows_from tasks t start end p onto
   rows_same start end p [] low = refl
   rows_same start end p (o ∷ onto) low =
-      let a = on_same (set_boundary tasks) f t u h r start o (λ i e. low i (let one = bit_at (is_at o i) (ap (λ x. is_at x i) e ∙ eq-eqb i i refl) in omega (arith, one))) in
+      let a = on_same (set_boundary tasks) f t u h r start o (λ i e. low i (let one = bit_at (is_at o i) (ap (λ x. is_at x i) e ∙ eq-eqb i i refl) in
+      omega (arith, one))) in
       let b = rows_same start end (suc p) onto (λ i some. low i (omega (arith, some))) in
       let c = r.scale_same in
       λ i. record { processor = p; start = start; end = end; leaf = shown tasks (c i) start (a i) } ∷ b i
@@ -156,7 +165,8 @@ module _ (tasks : List declared.Task) (f : ℕ → ℕ) (t u : Tree) (h : IsTree
 
   pub schedule_same : (stop : ℕ) → schedule tasks u stop ≡ schedule tasks t stop
   unfolding schedule
-  schedule_same stop = ap (rows_of_events tasks u stop) (events_same (set_boundary tasks) f t u h r stop) ∙ all_same stop (events_below (set_boundary tasks) t stop)
+  schedule_same stop = ap (rows_of_events tasks u stop) (events_same (set_boundary tasks) f t u h r stop) ∙ all_same stop (events_below (set_boundary tasks)
+      t stop)
 
   pub rounds_count_same : (stop : ℕ) → rounds tasks u stop ≡ rounds tasks t stop
   unfolding rounds

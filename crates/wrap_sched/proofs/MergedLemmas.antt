@@ -1,5 +1,6 @@
 -- The merged rows of the first rounds of a wrapped schedule.
-use Rattle.std.proofs.Common.{[], add-zero, ap, arith, filter, length, List, map, refl, replicate, subst, sym, ℕ, ◌*◌, ◌+◌, ◌++◌, ◌-◌, ◌<◌, ◌^◌, ◌∙◌, ◌≡◌, ◌≤◌, true}
+use Rattle.std.proofs.Common.{[], add-zero, ap, arith, filter, length, List, map, refl, replicate, subst, sym, ℕ, ◌*◌, ◌+◌, ◌++◌, ◌-◌, ◌<◌, ◌^◌, ◌∙◌}
+use Rattle.std.proofs.Common.{◌≡◌, ◌≤◌, true}
 use Rattle.std.proofs.lemmas.List.{append-nil, append_assoc, length-map, take_all}
 use Rattle.std.specs.List.{flat_map, range_with_len}
 use Rattle.sched_base.specs.declared.rows.Row.{Row}
@@ -21,7 +22,9 @@ use Rattle.wrap_sched.proofs.PatternLemmas.{spans_next}
 use Rattle.wrap_sched.proofs.RowNames.{lanes_name}
 use Rattle.wrap_sched.proofs.StepLemmas.{filter_next}
 use Rattle.wrap_sched.proofs.StretchLemmas.{stretch}
-use Rattle.wrap_sched.proofs.TableLemmas.{IsItem, IsReached, first_reached, item_whole, last_reached, next_count, next_end, next_reached, none_end, none_rounds, room_from, round_get, round_lanes, round_long, rows_up_to, slice_of, slice_rows_are, wrapped_from}
+use Rattle.wrap_sched.proofs.TableLemmas.{IsItem, IsReached, first_reached, item_whole, last_reached, next_count, next_end, next_reached, none_end}
+use Rattle.wrap_sched.proofs.TableLemmas.{none_rounds, room_from, round_get, round_lanes, round_long, rows_up_to, slice_of, slice_rows_are}
+use Rattle.wrap_sched.proofs.TableLemmas.{wrapped_from}
 
 -- ---- the rounds of a slice, one after another
 
@@ -48,7 +51,8 @@ module _ (s : SetContents) (scale : ℕ) (lawful : IsLawful s) (is : IsScale s.t
       })
 
   -- all of the slice's rounds
-  pub last_part : (i : ℕ) (done : List Row) (now : MergedContents) (pattern : List HeldRound) → pattern ≡ unit_rounds s.processors scale (rates scale s.tasks) → i ≡ length pattern
+  pub last_part : (i : ℕ) (done : List Row) (now : MergedContents) (pattern : List HeldRound) → pattern ≡ unit_rounds s.processors scale
+      (rates scale s.tasks) → i ≡ length pattern
       → IsPart s scale x y i count (done ++ rows_up_to s scale x y i) now
       → AreMergedUpTo s.processors (y * scale) (count + length pattern) (done ++ slice_rows scale s.tasks s.processors (slice_of x y)) now
   last_part i done now pattern pattern_is at part =
@@ -67,7 +71,8 @@ module _ (s : SetContents) (scale : ℕ) (lawful : IsLawful s) (is : IsScale s.t
         table = part.table;
       })
 
-  module _ (fits : Fits scale s) (early : y ≤ s.horizon) (small : scale ≤ 2 ^ 94) (i : ℕ) (rows : List Row) (now : MergedContents) (part : IsPart s scale x y i count rows now)
+  module _ (fits : Fits scale s) (early : y ≤ s.horizon) (small : scale ≤ 2 ^ 94) (i : ℕ) (rows : List Row) (now : MergedContents) (part : IsPart s scale x
+      y i count rows now)
       (item : HeldRound) (it : IsItem s.processors scale (rates scale s.tasks) i item) where
     abbrev raw : List (List Row)
     raw = lanes_of s.processors rows
@@ -87,7 +92,8 @@ module _ (s : SetContents) (scale : ℕ) (lawful : IsLawful s) (is : IsScale s.t
     part_round = subst (λ (n : ℕ). IsRound n round) (sym part.tick) is_round
 
     -- a round more
-    pub next_part : (all : List Row) (later : MergedContents) → rows ++ round ≡ all → ((lanes : List (List Row)) → now.lanes ≡ map merged lanes → later.lanes ≡ map merged (with_round lanes round))
+    pub next_part : (all : List Row) (later : MergedContents) → rows ++ round ≡ all → ((lanes : List (List Row)) → now.lanes ≡ map merged lanes →
+        later.lanes ≡ map merged (with_round lanes round))
         → later.end ≡ end_after now.end round → IsPart s scale x y (i + 1) count all later
     next_part all later joined onto ends =
         let slice = slice_of x y in
@@ -100,9 +106,11 @@ module _ (s : SetContents) (scale : ℕ) (lawful : IsLawful s) (is : IsScale s.t
         let counted = next_count s scale lawful is fits slice forward raw long r in
         let before = part.rounds in
         let end : end_after now.end round ≡ x * scale + r.end =
-        end_of_all round now.end (x * scale + r.end) (omega (arith, whole, some)) (λ k row at. ap (λ (z : Row). z.end) (round_get s scale lawful is fits slice forward r k row at)) in
+        end_of_all round now.end (x * scale + r.end) (omega (arith, whole, some)) (λ k row at. ap (λ (z : Row). z.end) (round_get s scale lawful is fits
+        slice forward r k row at)) in
         subst (λ (rs : List Row). IsPart s scale x y (i + 1) count rs later) joined (record {
-          reached = subst (λ (ls : List (List Row)). IsReached s scale x y (i + 1) ls) (sym next) (next_reached s scale lawful is x y forward raw i part.reached item it fits);
+          reached = subst (λ (ls : List (List Row)). IsReached s scale x y (i + 1) ls) (sym next) (next_reached s scale lawful is x y forward raw i
+              part.reached item it fits);
           lanes = onto raw part.lanes ∙ ap (map merged) (sym next);
           tick = ends ∙ end ∙ sym (ap end_of next ∙ next_end s scale lawful is fits slice forward raw long r);
           rounds = ap rounds_in next ∙ omega (arith, counted, before);
@@ -116,11 +124,13 @@ pub record AreBefore (s : SetContents) (scale each x : ℕ) (now : MergedContent
   pub done : List Row
   pub count : ℕ
   pub so_far : AreMergedUpTo s.processors (x * scale) count done now
-  pub rows : done ++ flat_map (slice_rows scale s.tasks s.processors) (spans (filter (is_point s.tasks) (range_with_len x (s.horizon - x))) s.horizon) ≡ wrapped scale s
+  pub rows : done ++ flat_map (slice_rows scale s.tasks s.processors) (spans (filter (is_point s.tasks) (range_with_len x (s.horizon - x))) s.horizon)
+      ≡ wrapped scale s
   pub rounds : count + each * length (filter (is_point s.tasks) (range_with_len x (s.horizon - x))) ≡ wrapped_rounds scale s
 
 module _ (s : SetContents) (scale : ℕ) (lawful : IsLawful s) (is : IsScale s.tasks scale) where
-  pub none_before : (now : MergedContents) (pattern : List HeldRound) → pattern ≡ unit_rounds s.processors scale (rates scale s.tasks) → now.lanes ≡ replicate s.processors [] → now.end ≡ 0
+  pub none_before : (now : MergedContents) (pattern : List HeldRound) → pattern ≡ unit_rounds s.processors scale (rates scale s.tasks) →
+      now.lanes ≡ replicate s.processors [] → now.end ≡ 0
       → AreBefore s scale (length pattern) 0 now
   none_before now pattern pattern_is none start =
       let m = s.processors in
@@ -141,7 +151,8 @@ module _ (s : SetContents) (scale : ℕ) (lawful : IsLawful s) (is : IsScale s.t
         rounds = omega (arith, room);
       }
 
-  pub next_before : (each x y : ℕ) (now later : MergedContents) → is_point s.tasks x ≡ true → IsNext (is_point s.tasks) s.horizon x y → (before : AreBefore s scale each x now)
+  pub next_before : (each x y : ℕ) (now later : MergedContents) → is_point s.tasks x ≡ true → IsNext (is_point s.tasks) s.horizon x y →
+      (before : AreBefore s scale each x now)
       → AreMergedUpTo s.processors (y * scale) (before.count + each) (before.done ++ slice_rows scale s.tasks s.processors (slice_of x y)) later
       → AreBefore s scale each y later
   next_before each x y now later at next before up =
@@ -165,7 +176,8 @@ module _ (s : SetContents) (scale : ℕ) (lawful : IsLawful s) (is : IsScale s.t
     all_done : before.done ≡ wrapped scale s
     all_done =
         sym (append-nil before.done)
-        ∙ sym (ap (λ n. before.done ++ flat_map (slice_rows scale s.tasks s.processors) (spans (filter (is_point s.tasks) (range_with_len x n)) s.horizon)) none_left)
+        ∙ sym (ap (λ n. before.done ++ flat_map (slice_rows scale s.tasks s.processors) (spans (filter (is_point s.tasks) (range_with_len x n)) s.horizon))
+        none_left)
         ∙ before.rows
 
     all_counted : before.count ≡ wrapped_rounds scale s

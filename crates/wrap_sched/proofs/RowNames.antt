@@ -25,7 +25,8 @@ leaf_names tasks x p i =
       ]
     ]
 
-pub wrapped_names : (s : SetContents) (scale : ℕ) → IsLawful s → IsScale s.tasks scale → Fits scale s → AllByRecursion (λ r. NamesOneOf s.tasks r.leaf) (wrapped scale s)
+pub wrapped_names : (s : SetContents) (scale : ℕ) → IsLawful s → IsScale s.tasks scale → Fits scale s → AllByRecursion (λ r. NamesOneOf s.tasks r.leaf)
+    (wrapped scale s)
 wrapped_names s scale lawful is fits = wrapped_all s scale lawful is fits (λ r. NamesOneOf s.tasks r.leaf)
     (λ slice r up high begins ends p b. leaf_names s.tasks slice.begin p (holder (shares scale (units slice) s.tasks) (p * (units slice * scale) + r.begin)))
 
@@ -35,6 +36,9 @@ pub lanes_name : (s : SetContents) (scale : ℕ) → IsLawful s → IsScale s.ta
 lanes_name s scale lawful is fits = lanes_of-all (λ r. NamesOneOf s.tasks r.leaf) s.processors (wrapped scale s) (wrapped_names s scale lawful is fits)
 
 -- from its offset on a slice gives a task exactly its rate for each unit
-pub slice_share : (s : SetContents) (scale : ℕ) → IsLawful s → IsScale s.tasks scale → Fits scale s → (slice : Span) → slice.begin < slice.end → (j : ℕ) → j < length s.tasks → (task_at s.tasks j).offset ≤ slice.begin
-    → task_ticks (slice_rows scale s.tasks s.processors slice) j (slice.begin * scale) (slice.end * scale) ≡ rate_of scale (task_at s.tasks j) * (slice.end - slice.begin)
-slice_share s scale lawful is fits slice up j l late = slice_inside s scale lawful is fits slice up j (slice.begin * scale) (slice.end * scale) l late (let e : slice.begin * scale ≤ slice.begin * scale = omega arith in e) (let e : slice.end * scale ≤ slice.end * scale = omega arith in e)
+pub slice_share : (s : SetContents) (scale : ℕ) → IsLawful s → IsScale s.tasks scale → Fits scale s → (slice : Span) → slice.begin < slice.end → (j : ℕ) →
+    j < length s.tasks → (task_at s.tasks j).offset ≤ slice.begin
+    → task_ticks (slice_rows scale s.tasks s.processors slice) j (slice.begin * scale) (slice.end * scale) ≡ rate_of scale (task_at s.tasks j)
+    * (slice.end - slice.begin)
+slice_share s scale lawful is fits slice up j l late = slice_inside s scale lawful is fits slice up j (slice.begin * scale) (slice.end * scale) l late
+    (let e : slice.begin * scale ≤ slice.begin * scale = omega arith in e) (let e : slice.end * scale ≤ slice.end * scale = omega arith in e)

@@ -1,5 +1,6 @@
 -- The walk over points and cuts.
-use Rattle.std.proofs.Common.{Bool, List, [], ap, arith, div-add-mod', eqb, false, filter, get_or, inl, inr, le_refl, leb, length, min, mod-lt, refl, subst, suc, sym, take, true, zero, ℕ, ◌%◌, ◌&&◌, ◌*◌, ◌+◌, ◌++◌, ◌-◌, ◌/◌, ◌<◌, ◌∙◌, ◌∷◌, ◌≡◌, ◌≤◌, ◌||◌}
+use Rattle.std.proofs.Common.{Bool, List, [], ap, arith, div-add-mod', eqb, false, filter, get_or, inl, inr, le_refl, leb, length, min, mod-lt, refl}
+use Rattle.std.proofs.Common.{subst, suc, sym, take, true, zero, ℕ, ◌%◌, ◌&&◌, ◌*◌, ◌+◌, ◌++◌, ◌-◌, ◌/◌, ◌<◌, ◌∙◌, ◌∷◌, ◌≡◌, ◌≤◌, ◌||◌}
 use Rattle.std.specs.Prelude.{◌==◌}
 use Rattle.std.proofs.Math.Bool.{or-false}
 use Rattle.std.proofs.Math.Nat.{mul-add-mod_self_right, zero-mod}
@@ -51,7 +52,8 @@ none_before_offset task x k above below =
 -- ---- the nearest of several
 
 -- one more test
-pub next_nearer : (p q r : ℕ → Bool) (stop a n b : ℕ) → ((k : ℕ) → r k ≡ (p k || q k)) → IsNext p stop a n → a < b → q b ≡ true → ((k : ℕ) → a < k → k < b → q k ≡ false) → IsNext r stop a (min n b)
+pub next_nearer : (p q r : ℕ → Bool) (stop a n b : ℕ) → ((k : ℕ) → r k ≡ (p k || q k)) → IsNext p stop a n → a < b → q b ≡ true → ((k : ℕ) → a < k → k < b →
+    q k ≡ false) → IsNext r stop a (min n b)
 next_nearer p q r stop a n b same h above at none = record {
   above = (let l = h.above in omega (arith, l, above));
   within = (let l = h.within in omega (arith, l));
@@ -70,11 +72,14 @@ next_nearer p q r stop a n b same h above at none = record {
 
 -- one task more
 pub next_task : (tasks : List declared.Task) (i : ℕ) (t : declared.Task) (stop x n b : ℕ) → i < length tasks → t ≡ get_or tasks i t
-    → IsNext (λ k. list_any (λ task. task_boundary task k) (take i tasks)) stop x n → x < b → task_boundary t b ≡ true → ((k : ℕ) → x < k → k < b → task_boundary t k ≡ false)
+    → IsNext (λ k. list_any (λ task. task_boundary task k) (take i tasks)) stop x n → x < b → task_boundary t b ≡ true → ((k : ℕ) → x < k → k < b →
+    task_boundary t k ≡ false)
     → IsNext (λ k. list_any (λ task. task_boundary task k) (take (i + 1) tasks)) stop x (min n b)
 next_task tasks i t stop x n b l is h above at none =
-    next_nearer (λ k. list_any (λ task. task_boundary task k) (take i tasks)) (λ k. task_boundary t k) (λ k. list_any (λ task. task_boundary task k) (take (i + 1) tasks)) stop x n b
-    (λ k. list_any_more (λ task. task_boundary task k) tasks i t l ∙ ap (λ s. list_any (λ task. task_boundary task k) (take i tasks) || task_boundary s k) (sym is))
+    next_nearer (λ k. list_any (λ task. task_boundary task k) (take i tasks)) (λ k. task_boundary t k) (λ k. list_any (λ task. task_boundary task k)
+    (take (i + 1) tasks)) stop x n b
+    (λ k. list_any_more (λ task. task_boundary task k) tasks i t l ∙ ap (λ s. list_any (λ task. task_boundary task k) (take i tasks) || task_boundary s k)
+    (sym is))
     h above at none
 
 -- where nothing holds, `stop` is next
@@ -82,7 +87,8 @@ pub next_none : (p : ℕ → Bool) (stop a : ℕ) → a < stop → ((k : ℕ) �
 next_none p stop a l none = record { above = l; within = le_refl stop; at = λ m. absurd (omega arith); none = λ k b m. none k b }
 
 -- above a unit, points are the boundaries of tasks
-pub next_is_point : (tasks : List declared.Task) (stop x n : ℕ) → IsNext (λ k. list_any (λ task. task_boundary task k) tasks) stop x n → IsNext (is_point tasks) stop x n
+pub next_is_point : (tasks : List declared.Task) (stop x n : ℕ) → IsNext (λ k. list_any (λ task. task_boundary task k) tasks) stop x n →
+    IsNext (is_point tasks) stop x n
 next_is_point tasks stop x n h = record {
   above = h.above;
   within = h.within;
@@ -110,7 +116,8 @@ is_cut-push size ns n k =
     ∙ ap (λ y. is_cut size ns k || (y % size == k)) e
 
 -- the places so far, as far as their processor goes
-pub first_more : (ns : List ℕ) (i size first : ℕ) → i < length ns → first ≡ sum (take i ns) % size → (first + get_or ns i 0) % size ≡ sum (take (i + 1) ns) % size
+pub first_more : (ns : List ℕ) (i size first : ℕ) → i < length ns → first ≡ sum (take i ns) % size → (first + get_or ns i 0) % size ≡ sum (take (i + 1) ns)
+    % size
 first_more ns i size first l at =
     let s = sum (take i ns) in
     let n = get_or ns i 0 in
@@ -142,7 +149,8 @@ next_of_none size q l = next_none (is_cut size []) size q l (λ k m.
 
 -- numbers that don't pass are left out
 pub skip : (p : ℕ → Bool) (d a n : ℕ) → ((k : ℕ) → a ≤ k → k < a + d → p k ≡ false) → filter p (range_with_len a (d + n)) ≡ filter p (range_with_len (a + d) n)
-skip p zero a n off = let e : 0 + n ≡ n = omega arith in let f : a ≡ a + 0 = omega arith in ap (λ y. filter p (range_with_len a y)) e ∙ ap (λ y. filter p (range_with_len y n)) f
+skip p zero a n off = let e : 0 + n ≡ n = omega arith in let f : a ≡ a + 0 = omega arith in ap (λ y. filter p (range_with_len a y)) e
+    ∙ ap (λ y. filter p (range_with_len y n)) f
 skip p (suc d) a n off =
     let e : suc d + n ≡ suc (d + n) = omega arith in
     let f : a + 1 + d ≡ a + suc d = omega arith in
@@ -150,7 +158,8 @@ skip p (suc d) a n off =
     ∙ skip p d (a + 1) n (λ k l m. off k (omega arith) (omega arith)) ∙ ap (λ y. filter p (range_with_len y n)) f
 
 -- from one number that passes to the next
-pub filter_next : (p : ℕ → Bool) (stop a n : ℕ) → p a ≡ true → IsNext p stop a n → filter p (range_with_len a (stop - a)) ≡ a ∷ filter p (range_with_len n (stop - n))
+pub filter_next : (p : ℕ → Bool) (stop a n : ℕ) → p a ≡ true → IsNext p stop a n → filter p (range_with_len a (stop - a)) ≡ a ∷ filter p
+    (range_with_len n (stop - n))
 filter_next p stop a n on h =
     let above = h.above in
     let within = h.within in
@@ -158,4 +167,5 @@ filter_next p stop a n on h =
     let many : stop - a ≡ suc (d + (stop - n)) = omega (arith, above, within) in
     let there : a + 1 + d ≡ n = omega (arith, above) in
     ap (λ y. filter p (range_with_len a y)) many ∙ passing_on p a (d + (stop - n)) on
-    ∙ ap (λ xs. a ∷ xs) (skip p d (a + 1) (stop - n) (λ k l m. h.none k (omega arith) (omega (arith, m, there))) ∙ ap (λ y. filter p (range_with_len y (stop - n))) there)
+    ∙ ap (λ xs. a ∷ xs) (skip p d (a + 1) (stop - n) (λ k l m. h.none k (omega arith) (omega (arith, m, there)))
+    ∙ ap (λ y. filter p (range_with_len y (stop - n))) there)

@@ -1,5 +1,7 @@
 -- The rounds of a wrapped schedule, as rounds of a table.
-use Rattle.std.proofs.Common.{List, Some, [], add-mul, add-zero, ap, ap₂, arith, drop, drop-cons, filter, get_or, inl, inr, length, lit<, le_of_lt, map, mul-le-mul_right, refl, subst, suc, sym, take, zero, zero-add, ℕ, ◌*◌, ◌+◌, ◌++◌, ◌-◌, ◌<◌, ◌^◌, ◌∙◌, ◌∷◌, ◌≡◌, ◌≤◌}
+use Rattle.std.proofs.Common.{List, Some, [], add-mul, add-zero, ap, ap₂, arith, drop, drop-cons, filter, get_or, inl, inr, length, lit<, le_of_lt}
+use Rattle.std.proofs.Common.{map, mul-le-mul_right, refl, subst, suc, sym, take, zero, zero-add, ℕ, ◌*◌, ◌+◌, ◌++◌, ◌-◌, ◌<◌, ◌^◌, ◌∙◌, ◌∷◌, ◌≡◌}
+use Rattle.std.proofs.Common.{◌≤◌}
 use Rattle.std.specs.Prelude.{slice_get}
 use Rattle.std.proofs.Math.Nat.{mul-lt-mul_of_pos_right, mul-le-mul}
 use Rattle.std.proofs.lemmas.Bool.{cases_lt}
@@ -44,7 +46,8 @@ ticks_fit x horizon scale l m n =
     let fits : 2 ^ 32 * 2 ^ 94 < 2 ^ 127 = lit< tt in
     omega (arith, most, fits)
 
-module _ (s : SetContents) (scale : ℕ) (lawful : IsLawful s) (is : IsScale s.tasks scale) (fits : Fits scale s) (slice : Span) (up : slice.begin < slice.end) where
+module _ (s : SetContents) (scale : ℕ) (lawful : IsLawful s) (is : IsScale s.tasks scale) (fits : Fits scale s) (slice : Span)
+    (up : slice.begin < slice.end) where
   abbrev row : Span → ℕ → Row
   row = row_of s.tasks scale slice.begin (units slice * scale) (shares scale (units slice) s.tasks)
 
@@ -55,7 +58,8 @@ module _ (s : SetContents) (scale : ℕ) (lawful : IsLawful s) (is : IsScale s.t
   pub round_long : (r : Span) → length (round_rows scale s.tasks s.processors slice r) ≡ s.processors
   round_long r = length-map-range_with_len (row r) 0 s.processors
 
-  round_once : (r : Span) (p q : ℕ) (x y : Row) (task : TaskId) → p < q → slice_get (round_rows scale s.tasks s.processors slice r) p ≡ Some x → slice_get (round_rows scale s.tasks s.processors slice r) q ≡ Some y
+  round_once : (r : Span) (p q : ℕ) (x y : Row) (task : TaskId) → p < q → slice_get (round_rows scale s.tasks s.processors slice r) p ≡ Some x →
+      slice_get (round_rows scale s.tasks s.processors slice r) q ≡ Some y
       → x.leaf ≡ Task task → y.leaf ≡ Task task → ⊥
   round_once r p q x y task l at there of of' =
       once s scale lawful is fits slice up r p q task.0 l
@@ -63,7 +67,8 @@ module _ (s : SetContents) (scale : ℕ) (lawful : IsLawful s) (is : IsScale s.t
       (is_of_task_at task.0 (row r q).leaf (ap (λ (z : Row). z.leaf) (sym (round_get r q y there)) ∙ of'))
 
   -- the rows of a round are a whole round
-  pub round_whole : (r : Span) → r.begin < r.end → slice.begin * scale + r.end < 2 ^ 127 → IsRound (slice.begin * scale + r.begin) (round_rows scale s.tasks s.processors slice r)
+  pub round_whole : (r : Span) → r.begin < r.end → slice.begin * scale + r.end < 2 ^ 127 → IsRound (slice.begin * scale + r.begin) (round_rows scale s.tasks
+      s.processors slice r)
   round_whole r forward early = record {
     own = λ p x at. ap (λ (z : Row). z.processor) (round_get r p x at);
     starts = λ p x at. ap (λ (z : Row). z.start) (round_get r p x at);
@@ -82,7 +87,8 @@ module _ (s : SetContents) (scale : ℕ) (lawful : IsLawful s) (is : IsScale s.t
   }
 
   -- one round more on the lanes
-  pub round_lanes : (rows : List Row) (r : Span) → lanes_of s.processors (rows ++ round_rows scale s.tasks s.processors slice r) ≡ with_round (lanes_of s.processors rows) (round_rows scale s.tasks s.processors slice r)
+  pub round_lanes : (rows : List Row) (r : Span) → lanes_of s.processors (rows ++ round_rows scale s.tasks s.processors slice r) ≡ with_round
+      (lanes_of s.processors rows) (round_rows scale s.tasks s.processors slice r)
   round_lanes rows r = lanes_of-round s.processors rows (round_rows scale s.tasks s.processors slice r) (round_long r)
       (record { own = λ k x at. ap (λ (z : Row). z.processor) (round_get r k x at) ∙ sym (zero-add k) })
 
@@ -94,7 +100,8 @@ module _ (s : SetContents) (scale : ℕ) (lawful : IsLawful s) (is : IsScale s.t
     some_lanes = let some = lawful.some_processors in omega (arith, some, long)
 
     pub next_end : end_of (with_round lanes (round_rows scale s.tasks s.processors slice r)) ≡ slice.begin * scale + r.end
-    next_end = end_of-with_round lanes (round_rows scale s.tasks s.processors slice r) (slice.begin * scale + r.end) same_length some_lanes (λ x at. ap (λ (z : Row). z.end) (round_get r 0 x at))
+    next_end = end_of-with_round lanes (round_rows scale s.tasks s.processors slice r) (slice.begin * scale + r.end) same_length some_lanes
+        (λ x at. ap (λ (z : Row). z.end) (round_get r 0 x at))
 
     pub next_count : rounds_in (with_round lanes (round_rows scale s.tasks s.processors slice r)) ≡ rounds_in lanes + 1
     next_count = length-lane_of-with_round lanes (round_rows scale s.tasks s.processors slice r) 0 same_length some_lanes
@@ -105,10 +112,23 @@ module _ (s : SetContents) (scale : ℕ) (lawful : IsLawful s) (is : IsScale s.t
 module _ (s : SetContents) (scale : ℕ) (lawful : IsLawful s) (is : IsScale s.tasks scale) (slice : Span) (up : slice.begin < slice.end) where
   -- the rows as the code writes them, from the round of one unit
   pub written : (r : Span) (begin end : ℕ) → begin ≡ slice.begin * scale + units slice * r.begin → end ≡ slice.begin * scale + units slice * r.end →
-      map (λ p. record { processor = p; start = begin; end = end; leaf = leaf_of s.tasks slice.begin p (get_or (unit_round s.processors scale (rates scale s.tasks) r).holders p 0) }) (range_with_len 0 s.processors)
+      map (λ p. record {
+        processor = p;
+        start = begin;
+        end = end;
+        leaf = leaf_of s.tasks slice.begin p
+            (get_or (unit_round s.processors scale (rates scale s.tasks) r).holders p 0);
+      }) (range_with_len 0 s.processors)
       ≡ round_rows scale s.tasks s.processors slice (stretch (units slice) r)
   written r begin end begin_is end_is =
-      map_same (λ p. record { processor = p; start = begin; end = end; leaf = leaf_of s.tasks slice.begin p (get_or (unit_round s.processors scale (rates scale s.tasks) r).holders p 0) }) (row_of s.tasks scale slice.begin (units slice * scale) (shares scale (units slice) s.tasks) (stretch (units slice) r)) s.processors 0
+      map_same (λ p. record {
+        processor = p;
+        start = begin;
+        end = end;
+        leaf = leaf_of s.tasks slice.begin p
+            (get_or (unit_round s.processors scale (rates scale s.tasks) r).holders p 0);
+      }) (row_of s.tasks scale slice.begin (units slice * scale)
+      (shares scale (units slice) s.tasks) (stretch (units slice) r)) s.processors 0
       (λ p l m.
       let u = units slice in
       let a : begin ≡ slice.begin * scale + r.begin * u = omega (arith, begin_is) in
@@ -117,11 +137,18 @@ module _ (s : SetContents) (scale : ℕ) (lawful : IsLawful s) (is : IsScale s.t
       let held : get_or (unit_round s.processors scale (rates scale s.tasks) r).holders p 0 ≡ holder (shares scale u s.tasks) (p * (u * scale) + r.begin * u) =
       get_or-map-range_with_len (λ q. holder (rates scale s.tasks) (q * scale + r.begin)) 0 s.processors p p 0 (omega arith) (omega arith)
       ∙ sym (ap₂ holder (shares_are scale u s.tasks) place ∙ holder_stretch u (omega arith) (rates scale s.tasks) (p * scale + r.begin)) in
-      ap (λ x. record { processor = p; start = x; end = end; leaf = leaf_of s.tasks slice.begin p (get_or (unit_round s.processors scale (rates scale s.tasks) r).holders p 0) }) a
+      ap (λ x. record {
+        processor = p;
+        start = x;
+        end = end;
+        leaf = leaf_of s.tasks slice.begin p
+            (get_or (unit_round s.processors scale (rates scale s.tasks) r).holders p 0);
+      }) a
       ∙ ap₂ (λ x i. record { processor = p; start = slice.begin * scale + r.begin * u; end = x; leaf = leaf_of s.tasks slice.begin p i }) b held)
 
   -- the slice's rows, from the rounds of one unit
-  pub slice_rows_are : slice_rows scale s.tasks s.processors slice ≡ flat_map (round_rows scale s.tasks s.processors slice) (map (stretch (units slice)) (round_spans scale (rates scale s.tasks)))
+  pub slice_rows_are : slice_rows scale s.tasks s.processors slice ≡ flat_map (round_rows scale s.tasks s.processors slice) (map (stretch (units slice))
+      (round_spans scale (rates scale s.tasks)))
   slice_rows_are = ap (λ rs. flat_map (round_rows scale s.tasks s.processors slice) rs) (rounds_are scale s.tasks is.positive slice up)
 
 -- an item of the rounds of one unit
@@ -131,7 +158,8 @@ pub record IsItem (m scale : ℕ) (ns : List ℕ) (i : ℕ) (item : HeldRound) :
   pub rest : drop i (round_spans scale ns) ≡ round ∷ drop (i + 1) (round_spans scale ns)
   pub before : take (i + 1) (round_spans scale ns) ≡ take i (round_spans scale ns) ++ round ∷ []
 
-pub item_at : (m scale : ℕ) (ns : List ℕ) (pattern : List HeldRound) (i : ℕ) (item : HeldRound) → pattern ≡ unit_rounds m scale ns → i < length pattern → item ≡ get_or pattern i item → IsItem m scale ns i item
+pub item_at : (m scale : ℕ) (ns : List ℕ) (pattern : List HeldRound) (i : ℕ) (item : HeldRound) → pattern ≡ unit_rounds m scale ns → i < length pattern →
+    item ≡ get_or pattern i item → IsItem m scale ns i item
 item_at m scale ns pattern i item is less at =
     let many = ap length is ∙ length-map (round_spans scale ns) (unit_round m scale ns) in
     let l : i < length (round_spans scale ns) = omega (arith, many, less) in
@@ -153,7 +181,8 @@ slice_of x y = record { begin = x; end = y }
 
 -- the rows of its first i rounds
 abbrev pub rows_up_to : SetContents → ℕ → ℕ → ℕ → ℕ → List Row
-rows_up_to s scale x y i = flat_map (round_rows scale s.tasks s.processors (slice_of x y)) (map (stretch (y - x)) (take i (round_spans scale (rates scale s.tasks))))
+rows_up_to s scale x y i = flat_map (round_rows scale s.tasks s.processors (slice_of x y)) (map (stretch (y - x))
+    (take i (round_spans scale (rates scale s.tasks))))
 
 -- where the lanes end before round i
 pub record IsReached (s : SetContents) (scale x y i : ℕ) (lanes : List (List Row)) : Type 0 where
@@ -230,10 +259,17 @@ module _ (s : SetContents) (scale : ℕ) (lawful : IsLawful s) (is : IsScale s.t
           let whole : y - x + x ≡ y = omega arith in
           let f = ap (λ k. k * scale) whole in
           let F : ℕ → Type 0 = λ n. IsRound n (round_rows scale s.tasks s.processors (slice_of x y) (stretch (y - x) it.round)) in
-          subst F (sym item_begins) (round_whole s scale lawful is fits (slice_of x y) forward (stretch (y - x) it.round) more (omega (arith, all, most, parts, f)))
+          subst F (sym item_begins) (round_whole s scale lawful is fits (slice_of x y) forward (stretch (y - x) it.round) more (omega (
+            arith,
+            all,
+            most,
+            parts,
+            f,
+          )))
 
       -- the rows so far, with one round more
-      pub next_rows : (done : List Row) → (done ++ rows_up_to s scale x y i) ++ round_rows scale s.tasks s.processors (slice_of x y) (stretch (y - x) it.round) ≡ done ++ rows_up_to s scale x y (i + 1)
+      pub next_rows : (done : List Row) → (done ++ rows_up_to s scale x y i) ++ round_rows scale s.tasks s.processors (slice_of x y)
+          (stretch (y - x) it.round) ≡ done ++ rows_up_to s scale x y (i + 1)
       next_rows done =
           let f = round_rows scale s.tasks s.processors (slice_of x y) in
           let g = stretch (y - x) in
@@ -243,7 +279,8 @@ module _ (s : SetContents) (scale : ℕ) (lawful : IsLawful s) (is : IsScale s.t
           ∙ ap (λ rows. done ++ rows) (sym (flat_map-append f (map g (take i (round_spans scale (rates scale s.tasks)))) (g it.round ∷ [])))
           ∙ ap (λ rs. done ++ flat_map f rs) (sym (ap (map g) it.before ∙ map-append g (take i (round_spans scale (rates scale s.tasks))) (it.round ∷ [])))
 
-module _ (s : SetContents) (scale : ℕ) (lawful : IsLawful s) (is : IsScale s.tasks scale) (x y : ℕ) (forward : x < y) (i : ℕ) (item : HeldRound) (it : IsItem s.processors scale (rates scale s.tasks) i item) where
+module _ (s : SetContents) (scale : ℕ) (lawful : IsLawful s) (is : IsScale s.tasks scale) (x y : ℕ) (forward : x < y) (i : ℕ) (item : HeldRound)
+    (it : IsItem s.processors scale (rates scale s.tasks) i item) where
   -- a holder for each processor
   pub item_holders : length item.holders ≡ s.processors
   item_holders =
@@ -267,16 +304,23 @@ module _ (s : SetContents) (scale : ℕ) (lawful : IsLawful s) (is : IsScale s.t
         let place : ℕ → ℕ → ℕ = λ n q. n + (y - x) * q in
         let begin_is : start + (y - x) * item.begin ≡ x * scale + (y - x) * r.begin = ap₂ place at (ap (λ (z : HeldRound). z.begin) it.is) in
         let end_is : start + (y - x) * item.end ≡ x * scale + (y - x) * r.end = ap₂ place at (ap (λ (z : HeldRound). z.end) it.is) in
-        ap (λ (ns : List ℕ). map (λ p. record { processor = p; start = start + (y - x) * item.begin; end = start + (y - x) * item.end; leaf = leaf_of s.tasks x p (get_or ns p 0) }) (range_with_len 0 s.processors))
+        ap (λ (ns : List ℕ). map (λ p. record {
+          processor = p;
+          start = start + (y - x) * item.begin;
+          end = start + (y - x) * item.end;
+          leaf = leaf_of s.tasks x p (get_or ns p 0);
+        }) (range_with_len 0 s.processors))
         (ap (λ (z : HeldRound). z.holders) it.is)
         ∙ written s scale lawful is (slice_of x y) forward r (start + (y - x) * item.begin) (start + (y - x) * item.end) begin_is end_is
 
 -- ---- the slices, one after another
 
 -- all rows
-pub wrapped_from : (s : SetContents) (scale : ℕ) → flat_map (slice_rows scale s.tasks s.processors) (spans (filter (is_point s.tasks) (range_with_len 0 (s.horizon - 0))) s.horizon) ≡ wrapped scale s
+pub wrapped_from : (s : SetContents) (scale : ℕ) → flat_map (slice_rows scale s.tasks s.processors)
+    (spans (filter (is_point s.tasks) (range_with_len 0 (s.horizon - 0))) s.horizon) ≡ wrapped scale s
 unfolding wrapped
-wrapped_from s scale = let e : s.horizon - 0 ≡ s.horizon = omega arith in ap (λ n. flat_map (slice_rows scale s.tasks s.processors) (spans (filter (is_point s.tasks) (range_with_len 0 n)) s.horizon)) e
+wrapped_from s scale = let e : s.horizon - 0 ≡ s.horizon = omega arith in ap (λ n. flat_map (slice_rows scale s.tasks s.processors)
+    (spans (filter (is_point s.tasks) (range_with_len 0 n)) s.horizon)) e
 
 -- lanes with no row
 pub none_end : (m : ℕ) (lanes : List (List Row)) → 0 < m → lanes ≡ lanes_of m [] → end_of lanes ≡ 0
@@ -286,10 +330,12 @@ pub none_rounds : (m : ℕ) (lanes : List (List Row)) → 0 < m → lanes ≡ la
 none_rounds m lanes some is = ap rounds_in is ∙ ap length (lane_of-lanes_of m [] 0 some)
 
 -- as many rounds as are left
-pub room_from : (s : SetContents) (scale : ℕ) → IsLawful s → IsScale s.tasks scale → (pattern : List HeldRound) → pattern ≡ unit_rounds s.processors scale (rates scale s.tasks)
+pub room_from : (s : SetContents) (scale : ℕ) → IsLawful s → IsScale s.tasks scale → (pattern : List HeldRound) → pattern ≡ unit_rounds s.processors scale
+    (rates scale s.tasks)
     → wrapped_rounds scale s ≡ length pattern * length (filter (is_point s.tasks) (range_with_len 0 (s.horizon - 0)))
 room_from s scale lawful is pattern pattern_is =
     let ns = rates scale s.tasks in
     let e : s.horizon - 0 ≡ s.horizon = omega arith in
-    let many : length pattern ≡ length (cuts scale ns) = ap length pattern_is ∙ length-map (round_spans scale ns) (unit_round s.processors scale ns) ∙ length-spans (cuts scale ns) scale in
+    let many : length pattern ≡ length (cuts scale ns) = ap length pattern_is ∙ length-map (round_spans scale ns) (unit_round s.processors scale ns)
+    ∙ length-spans (cuts scale ns) scale in
     wrapped_rounds_are s scale lawful is ∙ sym (ap₂ (λ a b. a * b) many (ap (λ n. length (filter (is_point s.tasks) (range_with_len 0 n))) e))

@@ -1,5 +1,6 @@
 -- The wrapped schedule is valid.
-use Rattle.std.proofs.Common.{List, [], add-mul, ap, arith, eq-eqb, eqb, false, inl, inr, le-leb, le_refl, leb, length, mul-le-mul_right, refl, suc, true, zero, ℕ, ◌%◌, ◌&&◌, ◌*◌, ◌+◌, ◌-◌, ◌<◌, ◌∙◌, ◌∷◌, ◌≡◌, ◌≤◌}
+use Rattle.std.proofs.Common.{List, [], add-mul, ap, arith, eq-eqb, eqb, false, inl, inr, le-leb, le_refl, leb, length, mul-le-mul_right, refl, suc}
+use Rattle.std.proofs.Common.{true, zero, ℕ, ◌%◌, ◌&&◌, ◌*◌, ◌+◌, ◌-◌, ◌<◌, ◌∙◌, ◌∷◌, ◌≡◌, ◌≤◌}
 use Rattle.std.proofs.Math.Nat.{le_of_mul-le-mul_right, mul-le-mul_left, mul-mod_left, mul-pos}
 use Rattle.std.proofs.lemmas.Bool.{and_from, both_ways, cases_lt, or_left, or_right}
 use Rattle.std.specs.List.{AllByRecursion, flat_map, list_any}
@@ -23,11 +24,14 @@ use Rattle.wrap_sched.proofs.SpanLemmas.{Tile, tile_all, tile_at}
 pub boundary_at : (task : declared.Task) (k : ℕ) → task_boundary task (task.offset + k * task.period) ≡ true
 boundary_at task k =
     let e : task.offset + k * task.period - task.offset ≡ k * task.period = omega arith in
-    or_right (eqb (task.offset + k * task.period) 0) (leb task.offset (task.offset + k * task.period) && eqb ((task.offset + k * task.period - task.offset) % task.period) 0)
-    (and_from (leb task.offset (task.offset + k * task.period)) (eqb ((task.offset + k * task.period - task.offset) % task.period) 0) (le-leb task.offset (task.offset + k * task.period) (omega arith))
+    or_right (eqb (task.offset + k * task.period) 0) (leb task.offset (task.offset + k * task.period) && eqb ((task.offset + k * task.period - task.offset)
+    % task.period) 0)
+    (and_from (leb task.offset (task.offset + k * task.period)) (eqb ((task.offset + k * task.period - task.offset) % task.period) 0)
+    (le-leb task.offset (task.offset + k * task.period) (omega arith))
     (eq-eqb ((task.offset + k * task.period - task.offset) % task.period) 0 (ap (λ x. x % task.period) e ∙ mul-mod_left k task.period)))
 
-any_boundary : (tasks : List declared.Task) (j x : ℕ) → j < length tasks → task_boundary (task_at tasks j) x ≡ true → list_any (λ task. task_boundary task x) tasks ≡ true
+any_boundary : (tasks : List declared.Task) (j x : ℕ) → j < length tasks → task_boundary (task_at tasks j) x ≡ true →
+    list_any (λ task. task_boundary task x) tasks ≡ true
 any_boundary [] j x l e = absurd (omega arith)
 any_boundary (t ∷ tasks) zero x l e = or_left (task_boundary t x) (list_any (λ task. task_boundary task x) tasks) e
 any_boundary (t ∷ tasks) (suc j) x l e = or_right (task_boundary t x) (list_any (λ task. task_boundary task x) tasks) (any_boundary tasks j x (omega arith) e)
@@ -55,7 +59,8 @@ module _ (s : SetContents) (scale : ℕ) (lawful : IsLawful s) (is : IsScale s.t
       let some = fine.some_work in
       let few = fine.work_fits in
       let most : (task_at s.tasks j).work * scale ≤ (task_at s.tasks j).period * scale = mul-le-mul_right scale few in
-      le_of_mul-le-mul_right {m = rate_of scale (task_at s.tasks j)} {n = scale} {k = (task_at s.tasks j).period} (omega (arith, exact, most)) (omega (arith, some, few))
+      le_of_mul-le-mul_right {m = rate_of scale (task_at s.tasks j)} {n = scale} {k = (task_at s.tasks j).period} (omega (arith, exact, most))
+      (omega (arith, some, few))
 
   module _ (slice : Span) (up : slice.begin < slice.end) where
     -- the slice has some places on each processor
@@ -71,16 +76,19 @@ module _ (s : SetContents) (scale : ℕ) (lawful : IsLawful s) (is : IsScale s.t
         omega (arith, parts, e)
 
     pub rounds_tile : Tile (is_cut (units slice * scale) (shares scale (units slice) s.tasks)) 0 (units slice * scale) (slice_rounds scale s.tasks slice)
-    rounds_tile = tile_at (is_cut (units slice * scale) (shares scale (units slice) s.tasks)) (units slice * scale) some_places (cut_at_zero (units slice * scale) (shares scale (units slice) s.tasks))
+    rounds_tile = tile_at (is_cut (units slice * scale) (shares scale (units slice) s.tasks)) (units slice * scale) some_places
+        (cut_at_zero (units slice * scale) (shares scale (units slice) s.tasks))
 
     -- the row of a processor in a round
     abbrev pub row : Span → ℕ → Row
     row = row_of s.tasks scale slice.begin (units slice * scale) (shares scale (units slice) s.tasks)
 
     -- what holds of the row of each processor in each round
-    pub slice_all : (P : Row → Type 0) → ((r : Span) → r.begin < r.end → r.end ≤ units slice * scale → (p : ℕ) → p < s.processors → P (row r p)) → AllByRecursion P (slice_rows scale s.tasks s.processors slice)
+    pub slice_all : (P : Row → Type 0) → ((r : Span) → r.begin < r.end → r.end ≤ units slice * scale → (p : ℕ) → p < s.processors → P (row r p)) →
+        AllByRecursion P (slice_rows scale s.tasks s.processors slice)
     slice_all P f = flat_all P (round_rows scale s.tasks s.processors slice) (slice_rounds scale s.tasks slice)
-        (tile_all (is_cut (units slice * scale) (shares scale (units slice) s.tasks)) (λ r. AllByRecursion P (round_rows scale s.tasks s.processors slice r)) 0 (units slice * scale) (slice_rounds scale s.tasks slice) rounds_tile
+        (tile_all (is_cut (units slice * scale) (shares scale (units slice) s.tasks)) (λ r. AllByRecursion P (round_rows scale s.tasks s.processors slice
+        r)) 0 (units slice * scale) (slice_rounds scale s.tasks slice) rounds_tile
         (λ r w. map_all P (row r) s.processors 0 (λ p k h. f r w.up w.high p (omega arith))))
 
     -- the rows lie in the slice
@@ -93,9 +101,11 @@ module _ (s : SetContents) (scale : ℕ) (lawful : IsLawful s) (is : IsScale s.t
     pub slice_apart : (R : Row → Row → Type 0) → ((r q : Row) → r.end ≤ q.start → R r q) →
         ((r : Span) (p q : ℕ) → p < q → R (row r p) (row r q)) → AllApart R (slice_rows scale s.tasks s.processors slice)
     slice_apart R after each =
-        flat_apart (is_cut (units slice * scale) (shares scale (units slice) s.tasks)) (round_rows scale s.tasks s.processors slice) (λ q. slice.begin * scale + q) (λ x y l. omega arith)
+        flat_apart (is_cut (units slice * scale) (shares scale (units slice) s.tasks)) (round_rows scale s.tasks s.processors slice)
+        (λ q. slice.begin * scale + q) (λ x y l. omega arith)
         R after 0 (units slice * scale) (slice_rounds scale s.tasks slice) rounds_tile
-        (λ r w. map_all (λ x. (slice.begin * scale + r.begin ≤ x.start) × (x.end ≤ slice.begin * scale + r.end)) (row r) s.processors 0 (λ p k h. (le_refl (slice.begin * scale + r.begin), le_refl (slice.begin * scale + r.end))))
+        (λ r w. map_all (λ x. (slice.begin * scale + r.begin ≤ x.start) × (x.end ≤ slice.begin * scale + r.end)) (row r) s.processors 0
+        (λ p k h. (le_refl (slice.begin * scale + r.begin), le_refl (slice.begin * scale + r.end))))
         (λ r w. map_apart R (row r) s.processors 0 (λ p q k less h. each r p q less))
 
     -- a task's share is its rate for each unit of the slice
@@ -123,24 +133,28 @@ module _ (s : SetContents) (scale : ℕ) (lawful : IsLawful s) (is : IsScale s.t
         let e = places_end in
         let all = first_of_all scale (units slice) s.tasks (suc j) in
         let room : total_of scale s.tasks * units slice ≤ s.processors * scale * units slice = mul-le-mul_right (units slice) fits in
-        slice_gives s.tasks scale slice.begin (units slice * scale) s.processors ns (length-shares scale (units slice) s.tasks) j l late a b from (omega (arith, e, to)) some_places (omega (arith, all, room))
+        slice_gives s.tasks scale slice.begin (units slice * scale) s.processors ns (length-shares scale (units slice) s.tasks) j l late a b from
+        (omega (arith, e, to)) some_places (omega (arith, all, room))
         ∙ share_of j l
 
     -- and nothing in one that lies before it or behind it
     pub slice_before : (j a b : ℕ) → b ≤ slice.begin * scale → task_ticks (slice_rows scale s.tasks s.processors slice) j a b ≡ 0
     slice_before j a b l = ticks_outside j a b (slice_rows scale s.tasks s.processors slice)
-        (AllByRecursion-by (λ r. (slice.begin * scale ≤ r.start) × (r.end ≤ slice.end * scale)) (λ r. overlap r.start r.end a b ≡ 0) (slice_rows scale s.tasks s.processors slice)
+        (AllByRecursion-by (λ r. (slice.begin * scale ≤ r.start) × (r.end ≤ slice.end * scale)) (λ r. overlap r.start r.end a b ≡ 0)
+        (slice_rows scale s.tasks s.processors slice)
         (λ r k. let low = k.0 in omega (arith, low, l)) slice_bounds)
 
     pub slice_behind : (j a b : ℕ) → slice.end * scale ≤ a → task_ticks (slice_rows scale s.tasks s.processors slice) j a b ≡ 0
     slice_behind j a b l = ticks_outside j a b (slice_rows scale s.tasks s.processors slice)
-        (AllByRecursion-by (λ r. (slice.begin * scale ≤ r.start) × (r.end ≤ slice.end * scale)) (λ r. overlap r.start r.end a b ≡ 0) (slice_rows scale s.tasks s.processors slice)
+        (AllByRecursion-by (λ r. (slice.begin * scale ≤ r.start) × (r.end ≤ slice.end * scale)) (λ r. overlap r.start r.end a b ≡ 0)
+        (slice_rows scale s.tasks s.processors slice)
         (λ r k. let high = k.1 in omega (arith, high, l)) slice_bounds)
 
     -- a slice in which no period of the task begins or ends gives it its rate for each unit of the period
     pub slice_ticks : (j a b : ℕ) → j < length s.tasks → (task_at s.tasks j).offset ≤ a → a ≤ b →
         ((k : ℕ) → slice.begin < k → k < slice.end → is_point s.tasks k ≡ false) → is_point s.tasks a ≡ true → is_point s.tasks b ≡ true →
-        task_ticks (slice_rows scale s.tasks s.processors slice) j (a * scale) (b * scale) ≡ rate_of scale (task_at s.tasks j) * overlap slice.begin slice.end a b
+        task_ticks (slice_rows scale s.tasks s.processors slice) j (a * scale) (b * scale) ≡ rate_of scale (task_at s.tasks j) * overlap slice.begin
+        slice.end a b
     slice_ticks j a b l late order still at_a at_b =
         elim (cases_lt slice.begin a) [
           | inl less ↦
@@ -173,14 +187,16 @@ module _ (s : SetContents) (scale : ℕ) (lawful : IsLawful s) (is : IsScale s.t
   -- the slices from x on give a task its rate for each unit of a period
   slices_ticks : (j a b : ℕ) → j < length s.tasks → (task_at s.tasks j).offset ≤ a → a ≤ b → is_point s.tasks a ≡ true → is_point s.tasks b ≡ true →
       (x : ℕ) (ss : List Span) → Tile (is_point s.tasks) x s.horizon ss →
-      task_ticks (flat_map (slice_rows scale s.tasks s.processors) ss) j (a * scale) (b * scale) + rate_of scale (task_at s.tasks j) * overlap 0 x a b ≡ rate_of scale (task_at s.tasks j) * overlap 0 s.horizon a b
+      task_ticks (flat_map (slice_rows scale s.tasks s.processors) ss) j (a * scale) (b * scale) + rate_of scale (task_at s.tasks j) * overlap 0 x a
+      b ≡ rate_of scale (task_at s.tasks j) * overlap 0 s.horizon a b
   slices_ticks j a b l late order at_a at_b x [] t = let e = ap (λ y. rate_of scale (task_at s.tasks j) * overlap 0 y a b) t in omega (arith, e)
   slices_ticks j a b l late order at_a at_b x (slice ∷ ss) t =
       let (at, up, high, still, rest) = t in
       let rate = rate_of scale (task_at s.tasks j) in
       let ih = slices_ticks j a b l late order at_a at_b slice.end ss rest in
       let here = slice_ticks slice up j a b l late order still at_a at_b in
-      let parts = task_ticks-append (slice_rows scale s.tasks s.processors slice) (flat_map (slice_rows scale s.tasks s.processors) ss) j (a * scale) (b * scale) in
+      let parts = task_ticks-append (slice_rows scale s.tasks s.processors slice) (flat_map (slice_rows scale s.tasks s.processors) ss) j (a * scale)
+      (b * scale) in
       let more : overlap 0 slice.end a b ≡ overlap 0 x a b + overlap slice.begin slice.end a b = omega (arith, at, up) in
       let e = ap (λ o. rate_of scale (task_at s.tasks j) * o) more in
       omega (arith, ih, here, parts, e)
@@ -200,7 +216,8 @@ module _ (s : SetContents) (scale : ℕ) (lawful : IsLawful s) (is : IsScale s.t
   -- what holds of each two rows of a round, and of a row and each one that starts when it has ended, holds of each two
   pub wrapped_apart : (R : Row → Row → Type 0) → ((r q : Row) → r.end ≤ q.start → R r q) →
       ((slice : Span) → slice.begin < slice.end → (r : Span) (p q : ℕ) → p < q →
-      R (row_of s.tasks scale slice.begin (units slice * scale) (shares scale (units slice) s.tasks) r p) (row_of s.tasks scale slice.begin (units slice * scale) (shares scale (units slice) s.tasks) r q)) → AllApart R (wrapped scale s)
+      R (row_of s.tasks scale slice.begin (units slice * scale) (shares scale (units slice) s.tasks) r p) (row_of s.tasks scale slice.begin
+      (units slice * scale) (shares scale (units slice) s.tasks) r q)) → AllApart R (wrapped scale s)
   unfolding wrapped
   wrapped_apart R after each =
       flat_apart (is_point s.tasks) (slice_rows scale s.tasks s.processors) (λ x. x * scale) (λ x y l. mul-le-mul_right scale l)
@@ -221,9 +238,11 @@ module _ (s : SetContents) (scale : ℕ) (lawful : IsLawful s) (is : IsScale s.t
   -- what it gives in a period
   pub period_gives : (j k : ℕ) → j < length s.tasks →
       task_ticks (wrapped scale s) j (period_start scale (task_at s.tasks j) k) (period_start scale (task_at s.tasks j) (k + 1))
-      ≡ rate_of scale (task_at s.tasks j) * overlap 0 s.horizon ((task_at s.tasks j).offset + k * (task_at s.tasks j).period) ((task_at s.tasks j).offset + (k + 1) * (task_at s.tasks j).period)
+      ≡ rate_of scale (task_at s.tasks j) * overlap 0 s.horizon ((task_at s.tasks j).offset + k * (task_at s.tasks j).period)
+      ((task_at s.tasks j).offset + (k + 1) * (task_at s.tasks j).period)
   period_gives j k l =
-      wrapped_ticks j ((task_at s.tasks j).offset + k * (task_at s.tasks j).period) ((task_at s.tasks j).offset + (k + 1) * (task_at s.tasks j).period) l (omega arith) (omega arith)
+      wrapped_ticks j ((task_at s.tasks j).offset + k * (task_at s.tasks j).period) ((task_at s.tasks j).offset + (k + 1) * (task_at s.tasks j).period) l
+      (omega arith) (omega arith)
       (point_at s.tasks j k l) (point_at s.tasks j (k + 1) l)
 
   pub valid : IsValid s scale (s.horizon * scale) (s.horizon * scale) (wrapped scale s)
@@ -232,13 +251,15 @@ module _ (s : SetContents) (scale : ℕ) (lawful : IsLawful s) (is : IsScale s.t
         let e = places_end slice up in
         let last = mul-le-mul_right scale high in
         (b, omega (arith, e, last, ends)));
-    processors_apart = wrapped_apart (λ r q. r.processor ≡ q.processor → DontOverlap r q) (λ r q b same. inl b) (λ slice up r p q less same. absurd (omega arith));
+    processors_apart = wrapped_apart (λ r q. r.processor ≡ q.processor → DontOverlap r q) (λ r q b same. inl b) (λ slice up r p q less same. absurd
+        (omega arith));
     tasks_apart = wrapped_apart (λ r q. (j : ℕ) → is_of_task j r.leaf ≡ true → is_of_task j q.leaf ≡ true → DontOverlap r q) (λ r q b j x y. inl b)
         (λ slice up r p q less j x y. absurd (once slice up r p q j less x y));
     full = λ j k l ends.
         (let gives = period_gives j k l in
         let task = task_at s.tasks j in
-        let before : task.offset + (k + 1) * task.period ≤ s.horizon = le_of_mul-le-mul_right {m = task.offset + (k + 1) * task.period} {n = s.horizon} {k = scale} ends is.positive in
+        let before : task.offset + (k + 1) * task.period ≤ s.horizon = le_of_mul-le-mul_right {m = task.offset + (k + 1) * task.period} {n = s.horizon}
+        {k = scale} ends is.positive in
         let all : overlap 0 s.horizon (task.offset + k * task.period) (task.offset + (k + 1) * task.period) ≡ task.period = omega arith in
         let e = ap (λ o. rate_of scale task * o) all in
         let exact = rate_exact s.tasks scale is j l in
@@ -250,11 +271,13 @@ module _ (s : SetContents) (scale : ℕ) (lawful : IsLawful s) (is : IsScale s.t
         let e = mul-le-mul_left (rate_of scale task) most in
         let exact = rate_exact s.tasks scale is j l in
         omega (arith, gives, e, exact));
-    released = wrapped_all (λ r. (j : ℕ) → j < length s.tasks → is_of_task j r.leaf ≡ true → (task_at s.tasks j).offset * scale ≤ r.start) (λ slice r up high begins ends p b j l task.
+    released = wrapped_all (λ r. (j : ℕ) → j < length s.tasks → is_of_task j r.leaf ≡ true → (task_at s.tasks j).offset * scale ≤ r.start)
+        (λ slice r up high begins ends p b j l task.
         let late = (leaf_is_task s.tasks slice.begin p (holder (shares scale (units slice) s.tasks) (p * (units slice * scale) + r.begin)) j task).2 in
         let e = mul-le-mul_right scale late in
         omega (arith, e));
   }
 
-pub wrapped_valid : (s : SetContents) (scale : ℕ) → IsLawful s → IsScale s.tasks scale → Fits scale s → IsValid s scale (s.horizon * scale) (s.horizon * scale) (wrapped scale s)
+pub wrapped_valid : (s : SetContents) (scale : ℕ) → IsLawful s → IsScale s.tasks scale → Fits scale s → IsValid s scale (s.horizon * scale)
+    (s.horizon * scale) (wrapped scale s)
 wrapped_valid s scale lawful is fits = valid s scale lawful is fits

@@ -28,4 +28,9 @@ returns c =
     let all = c.in_ok-keys.ensures.len in
     let count = c.args.count in
     subst (λ (es : List Key). (length es ≡ count + count) × HasLeaves count es × (ends_of count es ≡ replicate count never))
-    (sym (back c.in_ok-keys.keys c.deref_mut.result.now c.number.new.keys c.deref_mut.ensures.value c.number.auto.keys)) (c.number.auto.keys ∙ omega (arith, long, all), c.number.ensures.leaves, c.number.ensures.ends)
+    (sym (back c.in_ok-keys.keys c.deref_mut.result.now c.number.new.keys c.deref_mut.ensures.value c.number.auto.keys)) (
+      c.number.auto.keys
+          ∙ omega (arith, long, all),
+      c.number.ensures.leaves,
+      c.number.ensures.ends,
+    )

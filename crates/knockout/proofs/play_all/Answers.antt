@@ -8,5 +8,6 @@ loop-at-preserved c =
       omega arith,
       omega arith,
       second_same c.loop-at.keys c.play.new.keys at _ c.play.ensures refl c.args.count (omega arith) ∙ c.loop-at.invariant.2,
-      right_from c.loop-at.keys c.play.new.keys at _ c.play.ensures refl c.args.count c.loop-at.at (omega arith) (omega arith) (omega arith) c.loop-at.invariant.3,
+      right_from c.loop-at.keys c.play.new.keys at _ c.play.ensures refl c.args.count c.loop-at.at (omega arith) (omega arith) (omega arith)
+          c.loop-at.invariant.3,
     )

@@ -5,7 +5,8 @@ use Rattle.knockout.proofs.replay.Goals as goal
 pub loop-at-preserved : goal.loop-at-preserved
 loop-at-preserved c =
     let at = c.loop-at.at / 2 in
-    let won = pair_won c.loop-at.keys c.loop-at.at c.partner.result c.loop-at.first.0 c.earlier-first.result.0 c.partner.ensures.left c.partner.ensures.right c.loop-at.invariant.4 c.earlier-first.ensures in (
+    let won = pair_won c.loop-at.keys c.loop-at.at c.partner.result c.loop-at.first.0 c.earlier-first.result.0 c.partner.ensures.left
+    c.partner.ensures.right c.loop-at.invariant.4 c.earlier-first.ensures in (
       omega arith,
       omega arith,
       second_same c.loop-at.keys _ at c.earlier-first.result refl won c.args.count (omega arith) ∙ c.loop-at.invariant.2,

@@ -13,8 +13,10 @@ loop-id-preserved g c =
       room = let room = c.add.ensures.room in let before = inv.room in omega (arith, room, before);
       long = length_more c.loop-id.id _ _ _ inv.long c.add.ensures.places;
       fresh = fresh_more _ _ c.loop-id.id _ _ _ inv.long inv.fresh c.add.ensures.places
-          (read_made own-1 (own-1.entry at-1-1) at-1-1 refl ℕ (λ e x. e.1.id x) _ _ _ c.into_dyn_box.ensures.1 ∙ ap (λ j. j.id) (c.in_ok-new.ensures.ok ∙ c.new.ensures))
-          (read_made own-1 (own-1.entry at-1-1) at-1-1 refl ℕ (λ e x. e.1.used x) _ _ _ c.into_dyn_box.ensures.1 ∙ ap (λ j. j.used) (c.in_ok-new.ensures.ok ∙ c.new.ensures));
+          (read_made own-1 (own-1.entry at-1-1) at-1-1 refl ℕ (λ e x. e.1.id x) _ _ _ c.into_dyn_box.ensures.1 ∙ ap (λ j. j.id) (c.in_ok-new.ensures.ok
+          ∙ c.new.ensures))
+          (read_made own-1 (own-1.entry at-1-1) at-1-1 refl ℕ (λ e x. e.1.used x) _ _ _ c.into_dyn_box.ensures.1 ∙ ap (λ j. j.used) (c.in_ok-new.ensures.ok
+          ∙ c.new.ensures));
     }
 
 pub execute-requires-clause-kits : goal.execute-requires-clause-kits

@@ -36,8 +36,10 @@ others-preserved c =
     let untold : (k : ℕ) → q + 1 ≤ k → get_or (set told q leaf) k None ≡ None =
     (λ k l. (let apart : k ≢ q = (λ e. omega (arith, e, l)) in get_or-set_other told q k leaf None apart) ∙ c.others.invariant.untold k (omega (arith, l))) in
     record {
-      done = looked_past c.args.plan.now c.args.start c.args.core.now.tick (q + 1) c.next_other-other-in-others.result.0 c.args.kept.now (set kept q node) (set told q leaf)
-          (looked_on c.args.plan.now c.args.start c.args.core.now.tick q c.args.kept.now kept told None node leaf here there c.others.invariant.done c.others.invariant.left (c.shown_at-node.ensures (get_or kept q None)))
+      done = looked_past c.args.plan.now c.args.start c.args.core.now.tick (q + 1) c.next_other-other-in-others.result.0 c.args.kept.now (set kept q node)
+          (set told q leaf)
+          (looked_on c.args.plan.now c.args.start c.args.core.now.tick q c.args.kept.now kept told None node leaf here there c.others.invariant.done
+          c.others.invariant.left (c.shown_at-node.ensures (get_or kept q None)))
           left untold c.next_other-other-in-others.ensures.skipped;
       left = λ k l. left k (let after = c.next_other-other-in-others.ensures.after in omega (arith, after, l));
       untold = λ k l. untold k (let after = c.next_other-other-in-others.ensures.after in omega (arith, after, l));

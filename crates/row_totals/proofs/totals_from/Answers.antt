@@ -20,7 +20,8 @@ loop-sum-preserved c =
     let i = c.loop-sum.sum-index in
     let room = c.loop-sum.invariant.1 in
     let less = c.push.ensures.room in (
-      c.push.ensures.ticks ∙ ap (λ (ticks : List ℕ). ticks ++ get_or c.args.sums.now i 0 ∷ []) c.loop-sum.invariant.0 ∙ sym (take_more c.args.sums.now i 0 c.loop-sum-test.true),
+      c.push.ensures.ticks ∙ ap (λ (ticks : List ℕ). ticks ++ get_or c.args.sums.now i 0 ∷ []) c.loop-sum.invariant.0
+          ∙ sym (take_more c.args.sums.now i 0 c.loop-sum-test.true),
       omega (arith, room, less),
     )
 

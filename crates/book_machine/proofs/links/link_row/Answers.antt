@@ -17,5 +17,7 @@ returns c =
     let at : RowAt rows p n r = rw (← c.from.ensures) c.row-leaf.ensures.value in
     let within : p < length links = let many = c.requires.before.lanes in let lane = c.requires.lane in omega (arith, many, lane) in
     let keeps : KeepsLink (get_or links p []) c.put.new.self n c.follow-link.result =
-    subst (λ (lane : List Link). KeepsLink lane c.put.new.self n c.follow-link.result) (c.index_mut.ensures.value ∙ get_or_default links p c.index_mut.result.now [] within) c.put.ensures in
-    rw c.follow-link.ensures.latest_rows (linked_next rows n p links latest_rows r at c.requires.before (record { lane = p; round = n }) c.put.new.self refl refl (rw c.follow-link.ensures.link at keeps))
+    subst (λ (lane : List Link). KeepsLink lane c.put.new.self n c.follow-link.result) (c.index_mut.ensures.value ∙ get_or_default links p
+    c.index_mut.result.now [] within) c.put.ensures in
+    rw c.follow-link.ensures.latest_rows (linked_next rows n p links latest_rows r at c.requires.before (record { lane = p; round = n }) c.put.new.self refl
+    refl (rw c.follow-link.ensures.link at keeps))

@@ -24,10 +24,12 @@ pub returns-clause-some : goal.returns-clause-some
 returns-clause-some c = λ e. absurd (let is : false ≡ true = e in cc)
 
 -- what holds of each earlier round and of this one
-no_more : (lanes : List (List Row)) (q from round : ℕ) (leaf : Leaf) → ((r : Row) → RowAt lanes q round r → r.leaf ≢ leaf) → ((j : ℕ) (r : Row) → from ≤ j → j < round → RowAt lanes q j r → r.leaf ≢ leaf) →
+no_more : (lanes : List (List Row)) (q from round : ℕ) (leaf : Leaf) → ((r : Row) → RowAt lanes q round r → r.leaf ≢ leaf) → ((j : ℕ) (r : Row) → from ≤ j →
+    j < round → RowAt lanes q j r → r.leaf ≢ leaf) →
     (j : ℕ) (r : Row) → from ≤ j → j < round + 1 → RowAt lanes q j r → r.leaf ≢ leaf
 no_more lanes q from round leaf here before j r low within at =
-    below_more (λ k. (row : Row) → from ≤ k → RowAt lanes q k row → row.leaf ≢ leaf) round (λ k less row above there. before k row above less there) (λ row above there. here row there) j within r low at
+    below_more (λ k. (row : Row) → from ≤ k → RowAt lanes q k row → row.leaf ≢ leaf) round (λ k less row above there. before k row above less there)
+    (λ row above there. here row there) j within r low at
 
 -- there is one row in its place
 one_row : (lanes : List (List Row)) (q round : ℕ) (row r : Row) → RowAt lanes q round row → RowAt lanes q round r → row ≡ r

@@ -19,17 +19,21 @@ add_ticks-requires-clause-forward c =
 pub add_ticks-requires-clause-task : goal.add_ticks-requires-clause-task
 add_ticks-requires-clause-task c = λ task is.
     let rows = c.args.rows.now in
-    (can_add c.args.given.now.items rows c.requires c.loop-q.q c.loop-q.given.items c.loop-q.invariant (get_or rows c.loop-q.q blank) (slice_get-get_or rows c.loop-q.q blank c.loop-q-test.true) task is).0
+    (can_add c.args.given.now.items rows c.requires c.loop-q.q c.loop-q.given.items c.loop-q.invariant (get_or rows c.loop-q.q blank) (slice_get-get_or rows
+    c.loop-q.q blank c.loop-q-test.true) task is).0
 
 pub add_ticks-requires-clause-fits : goal.add_ticks-requires-clause-fits
 add_ticks-requires-clause-fits c = λ task is.
     let rows = c.args.rows.now in
-    (can_add c.args.given.now.items rows c.requires c.loop-q.q c.loop-q.given.items c.loop-q.invariant (get_or rows c.loop-q.q blank) (slice_get-get_or rows c.loop-q.q blank c.loop-q-test.true) task is).1
+    (can_add c.args.given.now.items rows c.requires c.loop-q.q c.loop-q.given.items c.loop-q.invariant (get_or rows c.loop-q.q blank) (slice_get-get_or rows
+    c.loop-q.q blank c.loop-q-test.true) task is).1
 
 pub loop-q-preserved : goal.loop-q-preserved
 loop-q-preserved c =
     let rows = c.args.rows.now in
-    rw c.add_ticks.ensures (AreCounted-next c.args.given.now.items rows c.requires c.loop-q.q c.loop-q.given.items c.loop-q.invariant (get_or rows c.loop-q.q blank) (slice_get-get_or rows c.loop-q.q blank c.loop-q-test.true))
+    rw c.add_ticks.ensures (AreCounted-next c.args.given.now.items rows c.requires c.loop-q.q c.loop-q.given.items c.loop-q.invariant
+    (get_or rows c.loop-q.q blank) (slice_get-get_or rows c.loop-q.q blank c.loop-q-test.true))
 
 pub returns : goal.returns
-returns c = AreCounted-all c.args.given.now.items c.args.rows.now c.loop-q.q c.loop-q.given.items (let end = c.loop-q-test.false in omega (arith, end)) c.loop-q.invariant
+returns c = AreCounted-all c.args.given.now.items c.args.rows.now c.loop-q.q c.loop-q.given.items (let end = c.loop-q-test.false in omega (arith, end))
+    c.loop-q.invariant

@@ -27,4 +27,5 @@ loop-q-preserved c =
     (λ task is. let low = c.requires c.loop-q.q row task at is in let many = c.loop-q.invariant.many in omega (arith, low, many)))
 
 pub returns : goal.returns
-returns c = AreNoted-all c.args.tasks c.args.round c.args.last.now.items c.args.rows.now c.loop-q.q c.loop-q.last.items (let end = c.loop-q-test.false in omega (arith, end)) c.loop-q.invariant
+returns c = AreNoted-all c.args.tasks c.args.round c.args.last.now.items c.args.rows.now c.loop-q.q c.loop-q.last.items (let end = c.loop-q-test.false in
+    omega (arith, end)) c.loop-q.invariant

@@ -12,7 +12,8 @@ use Rattle.book_steps.proofs.pending.push_each.Goals as goal
 abbrev blank : Row
 blank = record { processor = 0; leaf = Task (record { 0 = 0 }); start = 0; end = 0 }
 
-length_pushed : (old : List PendingRow) (given : List ℕ) (rows : List Row) (k : ℕ) → k < length rows → length (old ++ map (pending given) (take k rows)) < length old + length rows
+length_pushed : (old : List PendingRow) (given : List ℕ) (rows : List Row) (k : ℕ) → k < length rows → length (old ++ map (pending given) (take k rows))
+    < length old + length rows
 length_pushed old given rows k low =
     let long = length-append old (map (pending given) (take k rows)) in
     let part = length-map (take k rows) (pending given) in

@@ -20,7 +20,8 @@ pub stage_behind-requires-clause-keeping : goal.stage_behind-requires-clause-kee
 stage_behind-requires-clause-keeping c =
     let p = c.args.plan.now in
     let end = c.args.core.now.tick in
-    let ends : c.deref.result.now ≡ c.args.ends.now.items ++ end ∷ [] = c.deref.ensures.value ∙ c.in-Ok.ensures.ends ∙ ap (λ (n : ℕ). c.args.ends.now.items ++ n ∷ []) c.now.ensures.value in
+    let ends : c.deref.result.now ≡ c.args.ends.now.items ++ end ∷ [] = c.deref.ensures.value ∙ c.in-Ok.ensures.ends
+    ∙ ap (λ (n : ℕ). c.args.ends.now.items ++ n ∷ []) c.now.ensures.value in
     let shown : c.deref-in-Ok.result.now ≡ c.args.shown.now.items ++ Some c.first_leaf.result ∷ [] = c.deref-in-Ok.ensures.value ∙ c.in-Ok.ensures.shown in
     subst (λ (es : List ℕ). IsKeeping p end es c.deref-in-Ok.result.now c.args.keeping) (sym ends)
     (subst (λ (ss : List (Option Leaf)). IsKeeping p end (c.args.ends.now.items ++ end ∷ []) ss c.args.keeping) (sym shown)

@@ -14,4 +14,5 @@ pub returns-then-again-ends-clause-within : goal.returns-then-again-ends-clause-
 returns-then-again-ends-clause-within c = c.if-again-ends.true
 
 pub returns-clause-within : goal.returns-clause-within
-returns-clause-within c = some_ends c.args.plan.now c.know_lawful.ensures.lawful c.args.tick c.args.ends.now c.args.shown.now c.args.again c.requires.again c.requires.early
+returns-clause-within c = some_ends c.args.plan.now c.know_lawful.ensures.lawful c.args.tick c.args.ends.now c.args.shown.now c.args.again c.requires.again
+    c.requires.early

@@ -1,7 +1,8 @@
 use Rattle.std.proofs.Common.{◌≡◌, Option, Some, None, List, ℕ, codes, sym, ap, option_map, ◌∙◌}
 use Rattle.clap.specs.Words.{found_of, rows_of}
 use Rattle.command_words.specs.declared.command.Command.TheVariants.{Read, Execute}
-use Rattle.command_words.proofs.CommandLineLemmas.{names, name_of, called_as, plainly_named, trace_used, trace_told, table_used, table_told, draw_used, exec_used, exec_told, drill_used}
+use Rattle.command_words.proofs.CommandLineLemmas.{names, name_of, called_as, plainly_named, trace_used, trace_told, table_used, table_told}
+use Rattle.command_words.proofs.CommandLineLemmas.{draw_used, exec_used, exec_told, drill_used}
 use Rattle.command_words.proofs.command_line.command_in.Goals as goal
 
 pub returns-in_err-name : goal.returns-in_err-name
@@ -82,4 +83,5 @@ returns-in_default c = λ used words spells e.
     let called : c.in_ok-name.name.now ≡ name_of used = cc in
     let other = c.in_default in
     c.read-in_default.ensures ∙ ap (option_map Read) c.reading_named.ensures
-    ∙ plainly_named used c.in_ok-name.name.now called other.not-trace other.not-table other.not-draw other.not-batch other.not-exec other.not-drill other.not-jobs other.not-modes
+    ∙ plainly_named used c.in_ok-name.name.now called other.not-trace other.not-table other.not-draw other.not-batch other.not-exec other.not-drill
+    other.not-jobs other.not-modes

@@ -17,7 +17,8 @@ loop-part-preserved c =
 pub returns-clause-app : goal.returns-clause-app
 returns-clause-app c =
     c.loop-part.invariant.app
-    ∙ ap (with_parts (new_app (text_of c.args.word))) (take_all c.loop-part.part-index c.parts_of-part-items.result.now c.loop-part-test.false ∙ c.parts_of-part-items.ensures)
+    ∙ ap (with_parts (new_app (text_of c.args.word))) (take_all c.loop-part.part-index c.parts_of-part-items.result.now c.loop-part-test.false
+    ∙ c.parts_of-part-items.ensures)
 
 pub returns-clause-itself : goal.returns-clause-itself
 returns-clause-itself c = λ old new adds. adds.shape c.loop-part.invariant.local

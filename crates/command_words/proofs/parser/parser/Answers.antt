@@ -17,5 +17,6 @@ loop-word-preserved c =
 pub returns : goal.returns
 returns c =
     c.loop-word.invariant
-    ∙ ap (with_words program) (take_all c.loop-word.word-index c.words_in_order-word-items.result.now c.loop-word-test.false ∙ c.words_in_order-word-items.ensures)
+    ∙ ap (with_words program) (take_all c.loop-word.word-index c.words_in_order-word-items.result.now c.loop-word-test.false
+    ∙ c.words_in_order-word-items.ensures)
     ∙ all_words

@@ -10,4 +10,5 @@ returns-in-Some c =
     ∙ execution_asked string_bytes c.args.words.now c.in-Some.word.now (sym (ap option_copied c.in-Some.is) ∙ c.first.ensures.value)
 
 pub returns-in-None : goal.returns-in-None
-returns-in-None c = ap (λ ws. asks_to_execute (map string_bytes ws)) (sym (no_first c.args.words.now (sym (ap option_copied c.in-None.is) ∙ c.first.ensures.value)))
+returns-in-None c = ap (λ ws. asks_to_execute (map string_bytes ws)) (sym (no_first c.args.words.now (sym (ap option_copied c.in-None.is)
+    ∙ c.first.ensures.value)))

@@ -28,8 +28,10 @@ returns-in-empty-clause-rest c = (front_empty string_bytes c.args.name.now c.arg
 
 pub returns-in-len2-up-clause-value : goal.returns-in-len2-up-clause-value
 returns-in-len2-up-clause-value c =
-    (front_own string_bytes c.args.name.now _ _ c.args.words.now _ _ c.in-len2-up.len_at_least c.word-item.is c.value-item.is c.as_str.ensures.value c.as_bytes.ensures.value (sym c.if-eq.ensures)).value_is
+    (front_own string_bytes c.args.name.now _ _ c.args.words.now _ _ c.in-len2-up.len_at_least c.word-item.is c.value-item.is c.as_str.ensures.value
+    c.as_bytes.ensures.value (sym c.if-eq.ensures)).value_is
 
 pub returns-in-len2-up-clause-rest : goal.returns-in-len2-up-clause-rest
 returns-in-len2-up-clause-rest c =
-    (front_own string_bytes c.args.name.now _ _ c.args.words.now _ _ c.in-len2-up.len_at_least c.word-item.is c.value-item.is c.as_str.ensures.value c.as_bytes.ensures.value (sym c.if-eq.ensures)).rest_is
+    (front_own string_bytes c.args.name.now _ _ c.args.words.now _ _ c.in-len2-up.len_at_least c.word-item.is c.value-item.is c.as_str.ensures.value
+    c.as_bytes.ensures.value (sym c.if-eq.ensures)).rest_is

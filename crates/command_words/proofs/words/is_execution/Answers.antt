@@ -33,7 +33,8 @@ bounds-words-2 c = omega arith
 
 pub returns-then-count-eq1 : goal.returns-then-count-eq1
 returns-then-count-eq1 c =
-    said_of_same _ _ _ (execution_of_one string_bytes _ c.args.words.now _ c.if-count-eq1.true c.index-words-0.is c.as_str.ensures.value) c.is_execution_named.ensures
+    said_of_same _ _ _ (execution_of_one string_bytes _ c.args.words.now _ c.if-count-eq1.true c.index-words-0.is c.as_str.ensures.value)
+    c.is_execution_named.ensures
 
 pub returns-then-count-eq2 : goal.returns-then-count-eq2
 returns-then-count-eq2 c =

@@ -27,9 +27,11 @@ returns-then-count-eq0 c = said_of_same _ _ _ (reading_by_none string_bytes c.ar
 
 pub returns-then-count-eq1 : goal.returns-then-count-eq1
 returns-then-count-eq1 c =
-    said_of_same _ _ _ (reading_by_one string_bytes c.args.word.now _ c.args.options.now _ c.if-count-eq1.true c.index-options-0.is c.as_str.ensures.value) c.is_reading_with.ensures
+    said_of_same _ _ _ (reading_by_one string_bytes c.args.word.now _ c.args.options.now _ c.if-count-eq1.true c.index-options-0.is c.as_str.ensures.value)
+    c.is_reading_with.ensures
 
 pub returns-then-count-eq2 : goal.returns-then-count-eq2
 returns-then-count-eq2 c =
-    said_of_same _ _ _ (reading_by_two string_bytes c.args.word.now _ _ c.args.options.now _ _ c.if-count-eq2.true c.index-options-0-then-count-eq2.is c.index-options-1.is
+    said_of_same _ _ _ (reading_by_two string_bytes c.args.word.now _ _ c.args.options.now _ _ c.if-count-eq2.true c.index-options-0-then-count-eq2.is
+    c.index-options-1.is
     c.as_str-then-count-eq2.ensures.value c.as_str-then-count-eq2-2.ensures.value) c.is_reading_with_value.ensures

@@ -12,7 +12,8 @@ only_none P none None h = refl
 only_none P none (Some x) h = absurd (none x h)
 
 pub returns : goal.returns
-returns c = ap₂ placing (c.in_ok-vec.ensures.items_if_clones_equal (only_none _ (λ x same. same))) (c.in_ok-vec-2.ensures.items_if_clones_equal (only_none _ (λ x same. same)))
+returns c = ap₂ placing (c.in_ok-vec.ensures.items_if_clones_equal (only_none _ (λ x same. same))) (c.in_ok-vec-2.ensures.items_if_clones_equal
+    (only_none _ (λ x same. same)))
 
 pub overflow_cast-processors : goal.overflow_cast-processors
 overflow_cast-processors c = let fits = c.ranges.processors in omega (arith, fits)
@@ -32,7 +33,8 @@ invariant_of-result c =
     let few_packs = c.ranges.packs in
     let onto = c.in_ok-vec.ensures.items_if_clones_equal (only_none _ (λ x same. same)) in
     let last = c.in_ok-vec-2.ensures.items_if_clones_equal (only_none _ (λ x same. same)) in (
-      subst₂ (λ (o : List (Option ℕ)) (l : List (Option ℕ)). IsNoted o l) (sym onto) (sym last) (none_noted c.args.processors c.args.packs (omega (arith, few_processors)) (omega (arith, few_packs))),
+      subst₂ (λ (o : List (Option ℕ)) (l : List (Option ℕ)). IsNoted o l) (sym onto) (sym last) (none_noted c.args.processors c.args.packs
+          (omega (arith, few_processors)) (omega (arith, few_packs))),
       λ p l none. absurd (omega (arith, l)),
       omega arith,
     )

@@ -47,7 +47,8 @@ returns-clause-places c = λ runs long changed.
     let begins = c.begun.ensures ∙ changed.begins ∙ ap (λ (p : Placing). waiting runs p.onto) (sym was) in
     let onto = written c.self.inside.onto c.deref_mut.result.now c.place_changed-free.new.onto c.deref_mut.ensures.value c.place_changed-free.auto.onto in
     let last = written c.self.inside.last c.deref_mut-2.result.now c.place_changed-free.new.last c.deref_mut-2.ensures.value c.place_changed-free.auto.last in
-    ap₂ placing (onto ∙ c.place_changed-free.ensures.onto runs packs stops begins) (last ∙ c.place_changed-free.ensures.last runs packs stops begins) ∙ ap (place runs) was
+    ap₂ placing (onto ∙ c.place_changed-free.ensures.onto runs packs stops begins) (last ∙ c.place_changed-free.ensures.last runs packs stops begins)
+    ∙ ap (place runs) was
 
 pub returns-clause-packs : goal.returns-clause-packs
 returns-clause-packs c =

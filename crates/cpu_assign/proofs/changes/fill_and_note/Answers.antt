@@ -20,10 +20,12 @@ loop-k-preserved c =
     let fresh : is_held c.loop-k.onto i ≡ is_held back i = c.loop-k.invariant.4 i (λ m b same. c.requires.once m c.loop-k.k b (omega (arith, l)) same) in
     let puts = c.put_and_note-from.ensures.put in
     let skips = c.put_and_note-from.ensures.skip in (
-      fill_begun_step back c.args.last.now c.loop-k.onto c.put_and_note-from.new.onto begun c.loop-k.k i (not (is_held c.loop-k.onto i)) c.requires.noted (omega (arith, l)) refl
+      fill_begun_step back c.args.last.now c.loop-k.onto c.put_and_note-from.new.onto begun c.loop-k.k i (not (is_held c.loop-k.onto i)) c.requires.noted
+          (omega (arith, l)) refl
           (ap not (fresh ∙ sym (there_is back c.args.last.now i c.requires.noted)))
           (λ on. puts (not-true (is_held c.loop-k.onto i) on))
-          (λ off. skips (elim (cases_Bool (is_held c.loop-k.onto i)) [ inl held ↦ held | inr free ↦ absurd (both_ways (not (is_held c.loop-k.onto i)) off (ap not free)) ]))
+          (λ off. skips (elim (cases_Bool (is_held c.loop-k.onto i))
+          [ inl held ↦ held | inr free ↦ absurd (both_ways (not (is_held c.loop-k.onto i)) off (ap not free)) ]))
           c.loop-k.invariant.0,
       c.put_and_note-from.ensures.held,
       c.put_and_note-from.ensures.within,
@@ -34,12 +36,14 @@ loop-k-preserved c =
       ]) ∙ c.loop-k.invariant.4 j (λ m b. h m (omega (arith, b))),
       λ j off. elim (cases_Bool (is_held c.loop-k.onto j)) [
         | inr free ↦ (elim (cases_eq j i) [
-          | inl same ↦ ap (λ (ls : List (Option ℕ)). get_or ls j None) (c.put_and_note-from.ensures.own (ap (is_held c.put_and_note-from.new.onto) (sym same) ∙ off))
+          | inl same ↦ ap (λ (ls : List (Option ℕ)). get_or ls j None) (c.put_and_note-from.ensures.own (ap (is_held c.put_and_note-from.new.onto)
+              (sym same) ∙ off))
           | inr ne ↦ c.put_and_note-from.ensures.others j ne
         ]) ∙ c.loop-k.invariant.5 j free
         | inl held ↦ absurd (both_ways (is_held c.put_and_note-from.new.onto j) off (elim (cases_Bool (is_held c.loop-k.onto i)) [
           | inl held' ↦ ap (λ (os : List (Option ℕ)). is_held os j) (skips held') ∙ held
-          | inr free ↦ ap (λ (os : List (Option ℕ)). is_held os j) (puts free) ∙ put_others i j c.loop-k.onto (λ same. both_ways (is_held c.loop-k.onto i) free (ap (is_held c.loop-k.onto) (sym same) ∙ held)) ∙ held
+          | inr free ↦ ap (λ (os : List (Option ℕ)). is_held os j) (puts free) ∙ put_others i j c.loop-k.onto (λ same. both_ways (is_held c.loop-k.onto i)
+              free (ap (is_held c.loop-k.onto) (sym same) ∙ held)) ∙ held
         ]))
       ],
     )

@@ -24,7 +24,8 @@ loop-p-preserved c =
       omega (arith, most, on),
       omega (arith, on),
       note_step c.args.onto.now c.args.last.now c.loop-p.last c.loop-p.last c.loop-p.p (c.loop-p.p - 1) (omega (arith, on)) most c.loop-p.invariant.2 refl
-          (λ i b at. absurd (both_ways (is_at (get_or c.args.onto.now (c.loop-p.p - 1) None) i) (ap (λ (o : Option ℕ). is_at o i) c.in_default.is) at)) (λ i b off. refl),
+          (λ i b at. absurd (both_ways (is_at (get_or c.args.onto.now (c.loop-p.p - 1) None) i) (ap (λ (o : Option ℕ). is_at o i) c.in_default.is) at))
+          (λ i b off. refl),
     )
 
 pub bounds : goal.bounds

@@ -4,7 +4,12 @@ use Rattle.event_core.proofs.BegunLemmas.{begun_none, begun_step, begun_places, 
 use Rattle.event_core.proofs.begun.begin_all.Goals as goal
 
 pub loop-k-init : goal.loop-k-init
-loop-k-init c = (refl, refl, begun_none c.args.plan.now.tree c.args.calendar.now.begins c.args.calendar.now.ends c.args.calendar.now.begun c.args.dues.now.remains c.args.ready.now c.args.stale.now)
+loop-k-init c = (
+  refl,
+  refl,
+  begun_none c.args.plan.now.tree c.args.calendar.now.begins c.args.calendar.now.ends c.args.calendar.now.begun
+      c.args.dues.now.remains c.args.ready.now c.args.stale.now,
+)
 
 pub begin_one-requires-clause-member : goal.begin_one-requires-clause-member
 begin_one-requires-clause-member c =
@@ -42,8 +47,10 @@ loop-k-preserved c =
     let stale' = c.loop-k.invariant.2.as_many in (
       c.begin_one.ensures.tick ∙ c.loop-k.invariant.0,
       c.begin_one.ensures.runs ∙ c.loop-k.invariant.1,
-      begun_step p.tree c.requires.plan.tree.tree c.args.calendar.now.begins c.args.calendar.now.ends c.args.calendar.now.begun c.args.dues.now.remains c.args.ready.now c.args.stale.now c.loop-k.dues.remains c.loop-k.ready c.loop-k.stale
-          c.begin_one.new.dues.remains c.begin_one.new.ready c.begin_one.new.stale c.loop-k.k c.begun.result.0 member c.begun.ensures (omega (arith, remains, remains')) (omega (arith, ready, ready')) (omega (arith, stale, stale'))
+      begun_step p.tree c.requires.plan.tree.tree c.args.calendar.now.begins c.args.calendar.now.ends c.args.calendar.now.begun c.args.dues.now.remains
+          c.args.ready.now c.args.stale.now c.loop-k.dues.remains c.loop-k.ready c.loop-k.stale
+          c.begin_one.new.dues.remains c.begin_one.new.ready c.begin_one.new.stale c.loop-k.k c.begun.result.0 member c.begun.ensures
+          (omega (arith, remains, remains')) (omega (arith, ready, ready')) (omega (arith, stale, stale'))
           (begun_places p.tree c.args.ready.now c.loop-k.ready c.begun.result.0 c.loop-k.invariant.2.long (c.requires.places c.begun.result.0 member))
           c.begin_one.ensures.remains c.begin_one.ensures.ready c.begin_one.ensures.stale c.loop-k.invariant.2,
     )
@@ -51,4 +58,5 @@ loop-k-preserved c =
 pub returns-clause-begun : goal.returns-clause-begun
 returns-clause-begun c =
     let t = c.args.plan.now.tree in
-    begun_of t c.args.calendar.now.begins c.args.calendar.now.ends c.args.calendar.now.begun c.args.dues.now.remains c.args.ready.now c.args.stale.now c.loop-k.dues.remains c.loop-k.ready c.loop-k.stale c.loop-k.k _ (omega (arith, c.begun_count-k-end.ensures)) c.loop-k.invariant.2
+    begun_of t c.args.calendar.now.begins c.args.calendar.now.ends c.args.calendar.now.begun c.args.dues.now.remains c.args.ready.now c.args.stale.now
+    c.loop-k.dues.remains c.loop-k.ready c.loop-k.stale c.loop-k.k _ (omega (arith, c.begun_count-k-end.ensures)) c.loop-k.invariant.2

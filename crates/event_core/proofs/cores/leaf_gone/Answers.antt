@@ -19,7 +19,8 @@ leaf_on-requires-clause-serving c = record { within = c.requires.core.serving.wi
 pub leaf_on-requires-clause-pack : goal.leaf_on-requires-clause-pack
 leaf_on-requires-clause-pack c = λ i at.
     let shown = c.requires.core.shown c.args.start c.requires.round in
-    pack_within c.args.plan.now c.requires.plan c.args.start c.args.q i c.requires.processor (ap (λ (os : List (Option ℕ)). get_or os c.args.q None) (sym shown.onto) ∙ sym c.pack_on.ensures ∙ at)
+    pack_within c.args.plan.now c.requires.plan c.args.start c.args.q i c.requires.processor (ap (λ (os : List (Option ℕ)). get_or os c.args.q None)
+    (sym shown.onto) ∙ sym c.pack_on.ensures ∙ at)
 
 pub returns-clause-row : goal.returns-clause-row
 returns-clause-row c = λ none.
@@ -27,11 +28,13 @@ returns-clause-row c = λ none.
     let s = c.args.state.now in
     let shown = c.requires.core.shown c.args.start c.requires.round in
     row_gone p c.requires.plan c.args.start s.serving.runs shown.says s.places.onto shown.onto s.dues.tick c.args.q c.requires.processor none
-    ∙ ap (λ (l : Leaf). let r : Row = record { processor = c.args.q; start = c.args.start; end = s.dues.tick; leaf = l } in r) (sym (c.leaf_on.ensures ∙ ap (leaf_shown p s.serving.runs c.args.start) c.pack_on.ensures))
+    ∙ ap (λ (l : Leaf). let r : Row = record { processor = c.args.q; start = c.args.start; end = s.dues.tick; leaf = l } in r)
+    (sym (c.leaf_on.ensures ∙ ap (leaf_shown p s.serving.runs c.args.start) c.pack_on.ensures))
 
 pub returns-clause-full : goal.returns-clause-full
 returns-clause-full c =
     let p = c.args.plan.now in
     let s = c.args.state.now in
     let shown = c.requires.core.shown c.args.start c.requires.round in
-    shows p c.requires.plan c.args.start s.serving.runs shown.says s.places.onto shown.onto s.dues.tick c.args.q c.requires.processor c.leaf_on.result (c.leaf_on.ensures ∙ ap (leaf_shown p s.serving.runs c.args.start) c.pack_on.ensures)
+    shows p c.requires.plan c.args.start s.serving.runs shown.says s.places.onto shown.onto s.dues.tick c.args.q c.requires.processor c.leaf_on.result
+    (c.leaf_on.ensures ∙ ap (leaf_shown p s.serving.runs c.args.start) c.pack_on.ensures)

@@ -10,14 +10,16 @@ use Rattle.event_core.proofs.TickLemmas.{skipped_by, tick_at, tick_of, ticks_lon
 use Rattle.event_core.proofs.dried.run_dry.Goals as goal
 
 -- what is marked is as long as before
-taken_long : (p : ℕ) (k : Option ℕ) (stale stale' : List Bool) → ((j : ℕ) → k ≡ Some j → stale' ≡ set stale p true) → (k ≡ None → stale' ≡ stale) → length stale' ≡ length stale
+taken_long : (p : ℕ) (k : Option ℕ) (stale stale' : List Bool) → ((j : ℕ) → k ≡ Some j → stale' ≡ set stale p true) → (k ≡ None → stale' ≡ stale) →
+    length stale' ≡ length stale
 taken_long p None stale stale' some none = ap (λ (xs : List Bool). length xs) (none refl)
 taken_long p (Some j) stale stale' some none = ap (λ (xs : List Bool). length xs) (some j refl) ∙ length-set stale p true
 
 pub dried-init : goal.dried-init
 dried-init c =
     let s = lists c.args.ready.now c.args.serves.now (ticks_by c.args.number.now c.args.dry.now) c.args.stale.now c.args.runs.now in (
-      drying_wide c.args.tree.now c.args.dues.now c.args.ends.now s (λ q. ⊥) (λ q. get_or c.args.number.now q 0 < 0) (λ q i m. omega (arith, m)) c.requires.drying,
+      drying_wide c.args.tree.now c.args.dues.now c.args.ends.now s (λ q. ⊥) (λ q. get_or c.args.number.now q 0 < 0) (λ q i m. omega (arith, m))
+          c.requires.drying,
       omega arith,
       refl,
     )
@@ -28,7 +30,9 @@ dried-preserved c =
     let s = lists c.dried.ready c.args.serves.now (ticks_by c.args.number.now c.args.dry.now) c.dried.stale c.args.runs.now in
     let number = c.args.number.now in
     let next = c.next_of-next.result in
-    let was = drying_skip t c.args.dues.now c.args.ends.now s number c.dried.k next c.now-now.result c.now-now.ensures.value (skipped_by number c.args.nodes.now c.args.dry.now c.now-now.result c.dried.k next c.requires.places c.next_of-next.ensures.skipped) c.dried.invariant.0 in
+    let was = drying_skip t c.args.dues.now c.args.ends.now s number c.dried.k next c.now-now.result c.now-now.ensures.value
+    (skipped_by number c.args.nodes.now c.args.dry.now c.now-now.result c.dried.k next c.requires.places c.next_of-next.ensures.skipped)
+    c.dried.invariant.0 in
     let p = get_or c.args.nodes.now next 0 in
     let off = c.if-next-used.false in
     let on : next + 1 ≤ c.args.used = omega (arith, off) in
@@ -44,11 +48,14 @@ dried-preserved c =
     let by = ticks_long number c.args.dry.now in
     let numbers = c.requires.places.number_long in
     let long = c.dried.invariant.0.ticks.long in (
-      drying_step t c.args.dues.now c.args.ends.now s c.take_out.new.ready c.take_out.new.stale number next p c.now-now.result c.now-now.ensures.value (omega (arith, b, ready, ready')) (omega (arith, b, stale, stale')) pack
+      drying_step t c.args.dues.now c.args.ends.now s c.take_out.new.ready c.take_out.new.stale number next p c.now-now.result c.now-now.ensures.value
+          (omega (arith, b, ready, ready')) (omega (arith, b, stale, stale')) pack
           (λ q i e. sym (c.requires.places.back q (let l = i.0 in omega (arith, l, long, by, numbers))) ∙ ap (λ j. get_or c.args.nodes.now j 0) e)
-          (dried_is c.args.serves.now (ticks_by number c.args.dry.now) p c.now-now.result c.dried.ready c.take_out.new.ready c.dried.stale c.take_out.new.stale here c.take_out.ensures.some c.take_out.ensures.none) was,
+          (dried_is c.args.serves.now (ticks_by number c.args.dry.now) p c.now-now.result c.dried.ready c.take_out.new.ready c.dried.stale
+          c.take_out.new.stale here c.take_out.ensures.some c.take_out.ensures.none) was,
       on,
-      taken_long p (get_or c.args.serves.now p None) c.dried.stale c.take_out.new.stale (λ j e. (c.take_out.ensures.some j e).1) (λ e. (c.take_out.ensures.none e).1) ∙ c.dried.invariant.2,
+      taken_long p (get_or c.args.serves.now p None) c.dried.stale c.take_out.new.stale (λ j e. (c.take_out.ensures.some j e).1)
+          (λ e. (c.take_out.ensures.none e).1) ∙ c.dried.invariant.2,
     )
 
 pub returns-then-next-used-clause-serving : goal.returns-then-next-used-clause-serving
@@ -57,7 +64,9 @@ returns-then-next-used-clause-serving c =
     let s = lists c.dried.ready c.args.serves.now (ticks_by c.args.number.now c.args.dry.now) c.dried.stale c.args.runs.now in
     let number = c.args.number.now in
     let next = c.next_of-next.result in
-    let was = drying_skip t c.args.dues.now c.args.ends.now s number c.dried.k next c.now-now.result c.now-now.ensures.value (skipped_by number c.args.nodes.now c.args.dry.now c.now-now.result c.dried.k next c.requires.places c.next_of-next.ensures.skipped) c.dried.invariant.0 in
+    let was = drying_skip t c.args.dues.now c.args.ends.now s number c.dried.k next c.now-now.result c.now-now.ensures.value
+    (skipped_by number c.args.nodes.now c.args.dry.now c.now-now.result c.dried.k next c.requires.places c.next_of-next.ensures.skipped)
+    c.dried.invariant.0 in
     let past = c.if-next-used.true in
     let long = c.dried.invariant.0.ticks.long in
     let early = c.dried.invariant.0.early in
@@ -81,7 +90,8 @@ returns-clause-serving c =
     let number = c.args.number.now in
     let by = ticks_long number c.args.dry.now in
     let numbers = c.requires.places.number_long in
-    all_dried t c.args.dues.now c.args.ends.now (lists c.dried.ready c.args.serves.now (ticks_by c.args.number.now c.args.dry.now) c.dried.stale c.args.runs.now) _
+    all_dried t c.args.dues.now c.args.ends.now (lists c.dried.ready c.args.serves.now (ticks_by c.args.number.now c.args.dry.now) c.dried.stale
+    c.args.runs.now) _
     (λ q i e. elim (cases_lt (get_or c.args.number.now q 0) c.args.used) [
       | inl low ↦ omega (arith, low, off)
       | inr past ↦ absurd (let l : q < length c.args.dry.now = (let b = i.0 in omega (arith, b, long, by, numbers)) in
@@ -97,10 +107,13 @@ take_out-requires-clause-member c = λ j e.
     let number = c.args.number.now in
     let next = c.next_of-next.result in
     let s = lists c.dried.ready c.args.serves.now (ticks_by number c.args.dry.now) c.dried.stale c.args.runs.now in
-    let was = drying_skip c.args.tree.now c.args.dues.now c.args.ends.now s number c.dried.k next c.now-now.result c.now-now.ensures.value (skipped_by number c.args.nodes.now c.args.dry.now c.now-now.result c.dried.k next c.requires.places c.next_of-next.ensures.skipped) c.dried.invariant.0 in
+    let was = drying_skip c.args.tree.now c.args.dues.now c.args.ends.now s number c.dried.k next c.now-now.result c.now-now.ensures.value
+    (skipped_by number c.args.nodes.now c.args.dry.now c.now-now.result c.dried.k next c.requires.places c.next_of-next.ensures.skipped)
+    c.dried.invariant.0 in
     let p = get_or c.args.nodes.now next 0 in
     let at = tick_at number c.args.nodes.now c.args.dry.now next c.requires.places (omega (arith, off, few)) in
-    let pack = dry_is_pack c.args.tree.now c.args.dues.now c.args.ends.now s _ was p at.0 (at.1 ∙ c.next_of-next.ensures.here (omega (arith, off)) ∙ c.now-now.ensures.value) in
+    let pack = dry_is_pack c.args.tree.now c.args.dues.now c.args.ends.now s _ was p at.0 (at.1 ∙ c.next_of-next.ensures.here (omega (arith, off))
+    ∙ c.now-now.ensures.value) in
     dry_within c.args.tree.now c.args.dues.now c.args.ends.now s _ was p j pack e
 
 pub next_of-next-requires-clause-narrowed : goal.next_of-next-requires-clause-narrowed
@@ -116,7 +129,8 @@ pub returns-then-next-used-clause-long : goal.returns-then-next-used-clause-long
 returns-then-next-used-clause-long c = c.dried.invariant.2
 
 pub bounds-nodes-next : goal.bounds-nodes-next
-bounds-nodes-next c = let off = c.if-next-used.false in let few = c.requires.narrowed.few in let long = c.requires.places.nodes_long in omega (arith, off, few, long)
+bounds-nodes-next c = let off = c.if-next-used.false in let few = c.requires.narrowed.few in let long = c.requires.places.nodes_long in
+    omega (arith, off, few, long)
 
 pub bounds-serves-p : goal.bounds-serves-p
 bounds-serves-p c =

@@ -5,7 +5,8 @@ use Rattle.event_core.proofs.NextCores.{first_left}
 use Rattle.event_core.proofs.firsts.first_serving.Goals as goal
 
 pub returns-clause-left : goal.returns-clause-left
-returns-clause-left c = first_left c.args.plan.now c.requires.plan c.args.calendar.now c.requires.calendar c.requires.unit c.begin_first.new.dues.remains c.begin_first.ensures.filled
+returns-clause-left c = first_left c.args.plan.now c.requires.plan c.args.calendar.now c.requires.calendar c.requires.unit c.begin_first.new.dues.remains
+    c.begin_first.ensures.filled
 
 pub returns-in_err-dues-clause-tick : goal.returns-in_err-dues-clause-tick
 returns-in_err-dues-clause-tick c = IfOk-from_err c.from_residual.result _ c.from_residual.ensures.0

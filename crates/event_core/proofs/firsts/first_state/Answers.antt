@@ -12,12 +12,15 @@ pub returns : goal.returns
 returns c = (
   c.in_ok-dues.ensures.tick,
   record {
-    at = first_core c.args.plan.now c.requires.plan c.in_ok-calendar.calendar c.in_ok-calendar.ensures.1 c.in_ok-calendar.ensures.0 c.in_ok-dues.dues.remains c.in_ok-dues.ensures.nodes c.in_ok-dues.ensures.left
-        c.in_ok-places.places (c.in_ok-places.ensures ∙ ap₂ unplaced c.pack_count.ensures c.processor_count.ensures.value) c.in_ok-dues.dues.tick c.in_ok-dues.ensures.tick c.in_ok-dues.dues.runs c.in_ok-dues.serving c.in_ok-masks.masks;
+    at = first_core c.args.plan.now c.requires.plan c.in_ok-calendar.calendar c.in_ok-calendar.ensures.1 c.in_ok-calendar.ensures.0
+        c.in_ok-dues.dues.remains c.in_ok-dues.ensures.nodes c.in_ok-dues.ensures.left
+        c.in_ok-places.places (c.in_ok-places.ensures ∙ ap₂ unplaced c.pack_count.ensures c.processor_count.ensures.value) c.in_ok-dues.dues.tick
+        c.in_ok-dues.ensures.tick c.in_ok-dues.dues.runs c.in_ok-dues.serving c.in_ok-masks.masks;
     long = c.in_ok-dues.ensures.long;
     serving = c.in_ok-dues.ensures.serving;
     masks = subst (λ (t : Tree). AreMasksOf t c.in_ok-masks.masks) c.tree.ensures.value c.in_ok-masks.ensures;
-    settled = λ i low l off. absurd (c.in_ok-dues.ensures.marked (get_or (packs_at c.args.plan.now.tree 0) i 0) (first_is_pack c.args.plan.now.tree c.requires.plan.tree.tree i l) off);
+    settled = λ i low l off. absurd (c.in_ok-dues.ensures.marked (get_or (packs_at c.args.plan.now.tree 0) i 0) (first_is_pack c.args.plan.now.tree
+        c.requires.plan.tree.tree i l) off);
     shown = λ start r. absurd (let up = r.above in let zero = c.in_ok-dues.ensures.tick in omega (arith, up, zero));
   },
 )

@@ -1,4 +1,5 @@
-use Rattle.std.proofs.Common.{subst, ◌+◌, ◌<◌, ◌≡◌, ◌++◌, ◌∷◌, ◌∙◌, ℕ, zero, suc, List, [], length, length-append, get_or, replicate, refl, sym, ap, arith, below_more}
+use Rattle.std.proofs.Common.{subst, ◌+◌, ◌<◌, ◌≡◌, ◌++◌, ◌∷◌, ◌∙◌, ℕ, zero, suc, List, [], length, length-append, get_or, replicate, refl, sym, ap}
+use Rattle.std.proofs.Common.{arith, below_more}
 use Rattle.std.proofs.lemmas.Result.{IfOk-from_err}
 use Rattle.knockout.specs.Knockouts.{never}
 use Rattle.event_core.proofs.firsts.no_ends.Goals as goal

@@ -14,7 +14,8 @@ pub overflow_cast-node_count : goal.overflow_cast-node_count
 overflow_cast-node_count c = let fits = c.node_count.type_inv in omega (arith, fits)
 
 pub rest_members-requires : goal.rest_members-requires
-rest_members-requires c = ap (λ (xs : List Bool). length xs) (c.deref_mut.ensures.value ∙ c.in_ok-runs.ensures) ∙ length-replicate {A = Bool} c.node_count.result true ∙ c.node_count.ensures
+rest_members-requires c = ap (λ (xs : List Bool). length xs) (c.deref_mut.ensures.value ∙ c.in_ok-runs.ensures) ∙ length-replicate {A = Bool}
+    c.node_count.result true ∙ c.node_count.ensures
 
 pub returns-clause-long : goal.returns-clause-long
 returns-clause-long c =

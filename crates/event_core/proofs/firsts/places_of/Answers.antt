@@ -10,13 +10,15 @@ use Rattle.event_core.proofs.firsts.places_of.Goals as goal
 pub overflow_sub-count : goal.overflow_sub-count
 overflow_sub-count c =
     let (some, its, last) = last_place c.args.plan.now c.requires.plan c.args.p.0 c.requires.pack in
-    let count = sym (length-map c.members-count.result.now (λ (n : NodeId). n.0)) ∙ ap (λ (xs : List ℕ). length xs) c.members-count.ensures ∙ ap (λ (t : Tree). length (members t c.args.p.0)) c.tree.ensures.value in
+    let count = sym (length-map c.members-count.result.now (λ (n : NodeId). n.0)) ∙ ap (λ (xs : List ℕ). length xs) c.members-count.ensures
+    ∙ ap (λ (t : Tree). length (members t c.args.p.0)) c.tree.ensures.value in
     omega (arith, some, count)
 
 pub member-last-requires-clause-member : goal.member-last-requires-clause-member
 member-last-requires-clause-member c =
     let (some, its, last) = last_place c.args.plan.now c.requires.plan c.args.p.0 c.requires.pack in
-    let count = sym (length-map c.members-count.result.now (λ (n : NodeId). n.0)) ∙ ap (λ (xs : List ℕ). length xs) c.members-count.ensures ∙ ap (λ (t : Tree). length (members t c.args.p.0)) c.tree.ensures.value in
+    let count = sym (length-map c.members-count.result.now (λ (n : NodeId). n.0)) ∙ ap (λ (xs : List ℕ). length xs) c.members-count.ensures
+    ∙ ap (λ (t : Tree). length (members t c.args.p.0)) c.tree.ensures.value in
     let all = ap (λ (t : Tree). length (members t c.args.p.0)) c.tree-2.ensures.value in
     omega (arith, some, count, all)
 
@@ -29,7 +31,8 @@ member-last-requires-clause-node c = subst (λ (t : Tree). c.args.p.0 < length t
 pub place-requires : goal.place-requires
 place-requires c =
     let (some, its, last) = last_place c.args.plan.now c.requires.plan c.args.p.0 c.requires.pack in
-    let count = sym (length-map c.members-count.result.now (λ (n : NodeId). n.0)) ∙ ap (λ (xs : List ℕ). length xs) c.members-count.ensures ∙ ap (λ (t : Tree). length (members t c.args.p.0)) c.tree.ensures.value in
+    let count = sym (length-map c.members-count.result.now (λ (n : NodeId). n.0)) ∙ ap (λ (xs : List ℕ). length xs) c.members-count.ensures
+    ∙ ap (λ (t : Tree). length (members t c.args.p.0)) c.tree.ensures.value in
     let is = c.member-last.ensures ∙ ap₂ (λ (t : Tree) (n : ℕ). member t c.args.p.0 (n - 1)) c.tree-2.ensures.value count in
     subst₂ (λ (t : Tree) (x : ℕ). x < length t.nodes) (sym c.tree-3.ensures.value) (sym is) its.0
 
@@ -42,7 +45,8 @@ overflow_add-result c = let fits = c.place.type_inv in omega (arith, fits)
 pub returns-clause-value : goal.returns-clause-value
 returns-clause-value c =
     let (some, its, last) = last_place c.args.plan.now c.requires.plan c.args.p.0 c.requires.pack in
-    let count = sym (length-map c.members-count.result.now (λ (n : NodeId). n.0)) ∙ ap (λ (xs : List ℕ). length xs) c.members-count.ensures ∙ ap (λ (t : Tree). length (members t c.args.p.0)) c.tree.ensures.value in
+    let count = sym (length-map c.members-count.result.now (λ (n : NodeId). n.0)) ∙ ap (λ (xs : List ℕ). length xs) c.members-count.ensures
+    ∙ ap (λ (t : Tree). length (members t c.args.p.0)) c.tree.ensures.value in
     let is = c.member-last.ensures ∙ ap₂ (λ (t : Tree) (n : ℕ). member t c.args.p.0 (n - 1)) c.tree-2.ensures.value count in
     ap (λ n. n + 1) (c.place.ensures ∙ ap₂ (λ (t : Tree) (x : ℕ). place t x) c.tree-3.ensures.value is) ∙ last
 

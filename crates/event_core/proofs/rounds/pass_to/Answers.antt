@@ -15,11 +15,14 @@ run_dry-requires-clause-drying c =
     let tick = c.pass.ensures.tick in
     let nodes = c.requires.remains in
     subst (λ (ends : List ℕ). IsDrying c.args.plan.now.tree c.pass.new.self ends c.args.state.now.serving (λ (q : ℕ). ⊥)) (sym c.ends.ensures.values)
-    (passed c.args.plan.now.tree c.requires.plan.tree.tree c.args.state.now.dues c.pass.new.self c.args.state.now.calendar.ends c.args.state.now.serving (c.args.end - c.now.result) c.requires.serving c.requires.fresh
-    tick (omega (arith, tick, now, above, below)) c.pass.ensures.runs (λ x i on. let e = c.requires.enough x on in omega (arith, e, now)) (λ x i. c.pass.ensures.spent x (let l = i.0 in omega (arith, l, nodes))))
+    (passed c.args.plan.now.tree c.requires.plan.tree.tree c.args.state.now.dues c.pass.new.self c.args.state.now.calendar.ends c.args.state.now.serving
+    (c.args.end - c.now.result) c.requires.serving c.requires.fresh
+    tick (omega (arith, tick, now, above, below)) c.pass.ensures.runs (λ x i on. let e = c.requires.enough x on in omega (arith, e, now))
+    (λ x i. c.pass.ensures.spent x (let l = i.0 in omega (arith, l, nodes))))
 
 pub returns-clause-serving : goal.returns-clause-serving
-returns-clause-serving c = subst (λ (ends : List ℕ). IsServing c.args.plan.now.tree c.pass.new.self ends c.run_dry.new.self) c.ends.ensures.values c.run_dry.ensures.serving
+returns-clause-serving c = subst (λ (ends : List ℕ). IsServing c.args.plan.now.tree c.pass.new.self ends c.run_dry.new.self) c.ends.ensures.values
+    c.run_dry.ensures.serving
 
 pub returns-clause-long : goal.returns-clause-long
 returns-clause-long c = c.run_dry.ensures.long
@@ -41,7 +44,8 @@ pass-requires-clause-fits c =
     omega (arith, now, above, below)
 
 pub pass-requires-clause-enough : goal.pass-requires-clause-enough
-pass-requires-clause-enough c = λ x on. subst (λ n. c.args.end - n ≤ slice_index c.args.state.now.dues.remains x) (sym c.now.ensures.value) (c.requires.enough x on)
+pass-requires-clause-enough c = λ x on. subst (λ n. c.args.end - n ≤ slice_index c.args.state.now.dues.remains x) (sym c.now.ensures.value)
+    (c.requires.enough x on)
 
 pub run_dry-requires-clause-long : goal.run_dry-requires-clause-long
 run_dry-requires-clause-long c = record {
@@ -65,7 +69,8 @@ returns-clause-nodes c = c.pass.ensures.nodes ∙ c.requires.remains
 pub returns-clause-spent : goal.returns-clause-spent
 returns-clause-spent c = λ x l.
     let d = c.args.state.now.dues in
-    subst (λ n. slice_index c.pass.new.self.remains x ≡ slice_index d.remains x - bit (get_or d.runs x false) * (c.args.end - n)) c.now.ensures.value (c.pass.ensures.spent x l)
+    subst (λ n. slice_index c.pass.new.self.remains x ≡ slice_index d.remains x - bit (get_or d.runs x false) * (c.args.end - n)) c.now.ensures.value
+    (c.pass.ensures.spent x l)
 
 pub returns-clause-calendar : goal.returns-clause-calendar
 returns-clause-calendar c = refl

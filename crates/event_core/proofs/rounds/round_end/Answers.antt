@@ -18,4 +18,5 @@ returns-clause-same c = c.first_dry.ensures.same
 pub returns-clause-end : goal.returns-clause-end
 returns-clause-end c =
     let p = c.args.plan.now in
-    subst (λ n. IsSoonest p.tree c.args.serving.now.dry n c.first_dry.result) (c.last_tick-most.ensures.value ∙ ap (λ n. min (stop_of p) (n * p.tree.scale)) c.next.ensures.value) c.first_dry.ensures.first
+    subst (λ n. IsSoonest p.tree c.args.serving.now.dry n c.first_dry.result) (c.last_tick-most.ensures.value ∙ ap (λ n. min (stop_of p) (n * p.tree.scale))
+    c.next.ensures.value) c.first_dry.ensures.first

@@ -15,7 +15,8 @@ returns-in-Some-clause-some c = λ n e.
     let serves = sym c.served.ensures ∙ c.in-Some.is in
     let e' : Some c.member_of.result ≡ Some n = e in
     let same : c.member_of.result ≡ n = cc in
-    sym (leaf_one c.args.plan.now.tree c.args.serving.now.runs (members c.args.plan.now.tree c.args.pack.0) c.in-Some.k (c.requires.serving.within c.args.pack.0 c.in-Some.k c.requires.pack serves)
+    sym (leaf_one c.args.plan.now.tree c.args.serving.now.runs (members c.args.plan.now.tree c.args.pack.0) c.in-Some.k (c.requires.serving.within
+    c.args.pack.0 c.in-Some.k c.requires.pack serves)
     (λ k l. c.requires.serving.at c.args.pack.0 k c.requires.pack l ∙ ap (λ (o : Option ℕ). is_at o k) serves))
     ∙ ap (leaf c.args.plan.now.tree) (sym c.member_of.ensures.value) ∙ ap (λ (x : NodeId). leaf c.args.plan.now.tree x.0) same
 

@@ -4,10 +4,13 @@ use Rattle.event_core.proofs.ServingLemmas.{none_runs, is_over}
 use Rattle.event_core.proofs.serving.change_one.Goals as goal
 
 pub set_place-requires-2-clause-other : goal.set_place-requires-2-clause-other
-set_place-requires-2-clause-other c = λ j e. none_runs c.args.tree.now c.requires.tree c.args.p.0 c.requires.pack c.args.was c.args.dues.now.runs c.set_place.new.dues.runs j c.requires.nodes c.requires.before (c.requires.after j e) c.requires.runs c.set_place.ensures.runs
+set_place-requires-2-clause-other c = λ j e. none_runs c.args.tree.now c.requires.tree c.args.p.0 c.requires.pack c.args.was c.args.dues.now.runs
+    c.set_place.new.dues.runs j c.requires.nodes c.requires.before (c.requires.after j e) c.requires.runs c.set_place.ensures.runs
 
 pub returns-clause-over : goal.returns-clause-over
-returns-clause-over c = is_over c.args.tree.now c.requires.tree c.args.p.0 c.requires.pack c.args.was c.args.next.place c.args.dues.now.runs c.set_place.new.dues.runs c.set_place-2.new.dues.runs c.requires.nodes c.requires.before c.requires.after c.requires.runs c.set_place.ensures.runs c.set_place-2.ensures.runs
+returns-clause-over c = is_over c.args.tree.now c.requires.tree c.args.p.0 c.requires.pack c.args.was c.args.next.place c.args.dues.now.runs
+    c.set_place.new.dues.runs c.set_place-2.new.dues.runs c.requires.nodes c.requires.before c.requires.after c.requires.runs c.set_place.ensures.runs
+    c.set_place-2.ensures.runs
 
 pub set_place-requires-clause-tree : goal.set_place-requires-clause-tree
 set_place-requires-clause-tree c = c.requires.tree
@@ -56,5 +59,7 @@ dry_of-requires-clause-node c = c.requires.after_at
 
 pub dry_of-requires-clause-runs : goal.dry_of-requires-clause-runs
 dry_of-requires-clause-runs c = λ j e.
-    let over = is_over c.args.tree.now c.requires.tree c.args.p.0 c.requires.pack c.args.was c.args.next.place c.args.dues.now.runs c.set_place.new.dues.runs c.set_place-2.new.dues.runs c.requires.nodes c.requires.before c.requires.after c.requires.runs c.set_place.ensures.runs c.set_place-2.ensures.runs in
+    let over = is_over c.args.tree.now c.requires.tree c.args.p.0 c.requires.pack c.args.was c.args.next.place c.args.dues.now.runs
+    c.set_place.new.dues.runs c.set_place-2.new.dues.runs c.requires.nodes c.requires.before c.requires.after c.requires.runs c.set_place.ensures.runs
+    c.set_place-2.ensures.runs in
     over.each j (c.requires.after j e) ∙ ap (λ o. is_at o j) e ∙ eq-eqb j j refl

@@ -25,10 +25,13 @@ pub change_if-dry-requires-clause-runs : goal.change_if-dry-requires-clause-runs
 change_if-dry-requires-clause-runs c = λ j l. c.requires.agree _ (member_of c.args.tree.now c.requires.tree c.args.p.0 c.requires.pack j l) ∙ c.requires.was j l
 
 pub returns-clause-agree : goal.returns-clause-agree
-returns-clause-agree c = agree_still c.args.tree.now c.requires.tree c.args.p.0 c.requires.pack c.hand_over_in-next.result.place c.args.runs.now c.hand_over_in-next.new.runs c.args.dues.now.runs c.change_if-dry.new.dues.runs c.change_if-dry.ensures.over c.requires.agree c.hand_over_in-next.ensures.now c.hand_over_in-next.ensures.others
+returns-clause-agree c = agree_still c.args.tree.now c.requires.tree c.args.p.0 c.requires.pack c.hand_over_in-next.result.place c.args.runs.now
+    c.hand_over_in-next.new.runs c.args.dues.now.runs c.change_if-dry.new.dues.runs c.change_if-dry.ensures.over c.requires.agree
+    c.hand_over_in-next.ensures.now c.hand_over_in-next.ensures.others
 
 pub returns-clause-served : goal.returns-clause-served
-returns-clause-served c = λ ends ready served. c.hand_over_in-next.ensures.served c.args.dues.now.remains ends (c.first_ready-chosen.ensures.earliest (candidates c.args.tree.now c.args.dues.now.remains ends c.args.p.0) ready) served
+returns-clause-served c = λ ends ready served. c.hand_over_in-next.ensures.served c.args.dues.now.remains ends (c.first_ready-chosen.ensures.earliest
+    (candidates c.args.tree.now c.args.dues.now.remains ends c.args.p.0) ready) served
 
 pub returns-clause-now : goal.returns-clause-now
 returns-clause-now c = c.hand_over_in-next.ensures.now

@@ -7,7 +7,8 @@ pub returns-clause-ticks : goal.returns-clause-ticks
 returns-clause-ticks c =
     let node = c.requires.node in
     let long = ticks_long c.args.number.now c.args.ticks.now in
-    ticks_set c.args.number.now c.args.nodes.now c.args.ticks.now c.set_at.new.ticks c.args.p.0 c.place_of-place.result c.args.tick c.requires.places (omega (arith, node, long)) c.place_of-place.ensures c.set_at.ensures.ticks
+    ticks_set c.args.number.now c.args.nodes.now c.args.ticks.now c.set_at.new.ticks c.args.p.0 c.place_of-place.result c.args.tick c.requires.places
+    (omega (arith, node, long)) c.place_of-place.ensures c.set_at.ensures.ticks
 
 pub place_of-place-requires : goal.place_of-place-requires
 place_of-place-requires c = let node = c.requires.node in let long = ticks_long c.args.number.now c.args.ticks.now in omega (arith, node, long)

@@ -11,5 +11,6 @@ loop-k-preserved c =
     let on = c.loop-k-test.true in
     let room = c.requires.room in
     let kept = c.loop-k.auto.told in
-    held_next c.args.places.now.onto c.args.packs.now c.loop-k.told c.tell-count.new.told c.loop-k.k c.loop-k.count c.tell-count.result c.holder_of.result (omega (arith, few, on, room, kept)) c.holder_of.ensures.holder c.holder_of.ensures.within
+    held_next c.args.places.now.onto c.args.packs.now c.loop-k.told c.tell-count.new.told c.loop-k.k c.loop-k.count c.tell-count.result c.holder_of.result
+    (omega (arith, few, on, room, kept)) c.holder_of.ensures.holder c.holder_of.ensures.within
     c.tell-count.ensures.some c.tell-count.ensures.none c.loop-k.invariant

@@ -4,20 +4,28 @@ use Rattle.event_core.proofs.turns.turn.Goals as goal
 
 pub begin-requires-clause-members : goal.begin-requires-clause-members
 begin-requires-clause-members c =
-    listed_members c.args.plan.now c.requires.plan c.args.state.now.calendar c.move_on.new.self c.requires.calendar c.move_on.ensures.belongs c.move_on.ensures.unit c.requires.late c.move_on.ensures.begun.due c.move_on.ensures.begun.long c.move_on.ensures.begun.marked c.move_on.ensures.begun.listed
+    listed_members c.args.plan.now c.requires.plan c.args.state.now.calendar c.move_on.new.self c.requires.calendar c.move_on.ensures.belongs
+    c.move_on.ensures.unit c.requires.late c.move_on.ensures.begun.due c.move_on.ensures.begun.long c.move_on.ensures.begun.marked
+    c.move_on.ensures.begun.listed
 
 pub begin-requires-clause-places : goal.begin-requires-clause-places
-begin-requires-clause-places c = places_stand c.args.plan.now.tree c.requires.plan.tree.tree c.args.state.now.dues c.args.state.now.calendar.ends c.args.state.now.serving c.requires.serving
+begin-requires-clause-places c = places_stand c.args.plan.now.tree c.requires.plan.tree.tree c.args.state.now.dues c.args.state.now.calendar.ends
+    c.args.state.now.serving c.requires.serving
 
 pub returns-clause-turned : goal.returns-clause-turned
 returns-clause-turned c =
-    has_turned c.args.plan.now c.requires.plan c.args.state.now.calendar c.move_on.new.self c.requires.calendar c.move_on.ensures.belongs c.move_on.ensures.unit c.requires.late c.move_on.ensures.begun.due c.move_on.ensures.begun.long c.move_on.ensures.begun.marked c.move_on.ensures.begun.listed
+    has_turned c.args.plan.now c.requires.plan c.args.state.now.calendar c.move_on.new.self c.requires.calendar c.move_on.ensures.belongs
+    c.move_on.ensures.unit c.requires.late c.move_on.ensures.begun.due c.move_on.ensures.begun.long c.move_on.ensures.begun.marked
+    c.move_on.ensures.begun.listed
     c.args.state.now.dues c.begin.new.dues c.args.state.now.serving c.begin.new.self c.requires.serving c.begin.ensures.begun
 
 pub returns-clause-serving : goal.returns-clause-serving
 returns-clause-serving c =
-    still_serving c.args.plan.now c.requires.plan c.args.state.now.calendar c.move_on.new.self c.requires.calendar c.move_on.ensures.belongs c.move_on.ensures.unit c.requires.late c.move_on.ensures.begun.due c.move_on.ensures.begun.long c.move_on.ensures.begun.marked c.move_on.ensures.begun.listed
-    c.args.state.now.dues c.begin.new.dues c.args.state.now.serving c.begin.new.self c.requires.serving c.begin.ensures.begun c.begin.ensures.tick c.begin.ensures.dues c.begin.ensures.serves c.begin.ensures.dry c.begin.ensures.runs
+    still_serving c.args.plan.now c.requires.plan c.args.state.now.calendar c.move_on.new.self c.requires.calendar c.move_on.ensures.belongs
+    c.move_on.ensures.unit c.requires.late c.move_on.ensures.begun.due c.move_on.ensures.begun.long c.move_on.ensures.begun.marked
+    c.move_on.ensures.begun.listed
+    c.args.state.now.dues c.begin.new.dues c.args.state.now.serving c.begin.new.self c.requires.serving c.begin.ensures.begun c.begin.ensures.tick
+    c.begin.ensures.dues c.begin.ensures.serves c.begin.ensures.dry c.begin.ensures.runs
 
 pub move_on-requires-clause-belongs : goal.move_on-requires-clause-belongs
 move_on-requires-clause-belongs c = c.requires.calendar

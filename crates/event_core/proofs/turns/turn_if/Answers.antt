@@ -67,7 +67,8 @@ pub returns-else-now-in_ticks-clause-same_calendar : goal.returns-else-now-in_ti
 returns-else-now-in_ticks-clause-same_calendar c = λ _. refl
 
 pub returns-else-now-in_ticks-clause-turned : goal.returns-else-now-in_ticks-clause-turned
-returns-else-now-in_ticks-clause-turned c = λ e. absurd (c.if-now-in_ticks.false (c.now.ensures.value ∙ e ∙ sym (c.in_ticks.ensures ∙ ap (λ n. n * c.args.plan.now.tree.scale) c.next.ensures.value)))
+returns-else-now-in_ticks-clause-turned c = λ e. absurd (c.if-now-in_ticks.false (c.now.ensures.value ∙ e ∙ sym (c.in_ticks.ensures
+    ∙ ap (λ n. n * c.args.plan.now.tree.scale) c.next.ensures.value)))
 
 pub returns-else-now-in_ticks-clause-tick : goal.returns-else-now-in_ticks-clause-tick
 returns-else-now-in_ticks-clause-tick c = refl

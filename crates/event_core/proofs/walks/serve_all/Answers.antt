@@ -12,8 +12,18 @@ loop-level-init c =
     let t = c.args.tree.now in
     let h = c.levels-level.ensures.lawful.tree in
     let is = c.levels-level.ensures.value in
-    let some = some_level t h c.levels-level.ensures.lawful.sized.some_processors in
-    (omega (arith, is), refl, refl, refl, c.requires.serving, fresh_top t h c.args.stale.now c.levels-level.result is, omega (arith, some, is), c.requires.settled, λ k l. refl, refl)
+    let some = some_level t h c.levels-level.ensures.lawful.sized.some_processors in (
+      omega (arith, is),
+      refl,
+      refl,
+      refl,
+      c.requires.serving,
+      fresh_top t h c.args.stale.now c.levels-level.result is,
+      omega (arith, some, is),
+      c.requires.settled,
+      λ k l. refl,
+      refl,
+    )
 
 pub serve_level-requires-clause-long : goal.serve_level-requires-clause-long
 serve_level-requires-clause-long c = record {
@@ -28,7 +38,8 @@ pub serve_level-requires-clause-serving : goal.serve_level-requires-clause-servi
 serve_level-requires-clause-serving c = c.loop-level.invariant.4
 
 pub serve_level-requires-clause-fits : goal.serve_level-requires-clause-fits
-serve_level-requires-clause-fits c = fitting_still c.args.tree.now c.args.dues.now c.loop-level.dues c.loop-level.invariant.1 c.loop-level.invariant.2 c.requires.fits
+serve_level-requires-clause-fits c = fitting_still c.args.tree.now c.args.dues.now c.loop-level.dues c.loop-level.invariant.1 c.loop-level.invariant.2
+    c.requires.fits
 
 pub loop-level-preserved : goal.loop-level-preserved
 loop-level-preserved c =
@@ -65,7 +76,8 @@ pub serve_first_level-requires-clause-levels : goal.serve_first_level-requires-c
 serve_first_level-requires-clause-levels c = let most = c.loop-level.invariant.0 in let some = c.loop-level.invariant.6 in omega (arith, most, some)
 
 pub serve_first_level-requires-clause-fits : goal.serve_first_level-requires-clause-fits
-serve_first_level-requires-clause-fits c = fitting_still c.args.tree.now c.args.dues.now c.loop-level.dues c.loop-level.invariant.1 c.loop-level.invariant.2 c.requires.fits
+serve_first_level-requires-clause-fits c = fitting_still c.args.tree.now c.args.dues.now c.loop-level.dues c.loop-level.invariant.1 c.loop-level.invariant.2
+    c.requires.fits
 
 pub serve_first_level-requires-clause-above : goal.serve_first_level-requires-clause-above
 serve_first_level-requires-clause-above c =
@@ -79,12 +91,15 @@ returns-clause-selected c =
     let t = c.args.tree.now in
     let h = c.levels-level.ensures.lawful.tree in
     let remains = c.serve_first_level.ensures.remains ∙ c.loop-level.invariant.2 in
-    let served = subst (λ (rs : List ℕ). AreServed t rs c.args.ends.now c.serve_first_level.new.stale c.serve_first_level.new.runs) remains c.serve_first_level.ensures.serving.served in
+    let served = subst (λ (rs : List ℕ). AreServed t rs c.args.ends.now c.serve_first_level.new.stale c.serve_first_level.new.runs) remains
+    c.serve_first_level.ensures.serving.served in
     all_selected t h c.args.dues.now.remains c.args.ends.now c.serve_first_level.new.runs 0 refl
-    (led_right t h c.args.dues.now.remains c.args.ends.now c.serve_first_level.new.stale c.serve_first_level.new.runs t.levels 0 (omega arith) c.serve_first_level.ensures.serving.led served c.serve_first_level.ensures.fresh)
+    (led_right t h c.args.dues.now.remains c.args.ends.now c.serve_first_level.new.stale c.serve_first_level.new.runs t.levels 0 (omega arith)
+    c.serve_first_level.ensures.serving.led served c.serve_first_level.ensures.fresh)
 
 pub returns-clause-seen : goal.returns-clause-seen
-returns-clause-seen c = seen_since c.args.tree.now c.args.serves.now c.loop-level.serves c.serve_first_level.new.serves c.serve_first_level.new.changes c.loop-level.invariant.8 c.serve_first_level.ensures.seen
+returns-clause-seen c = seen_since c.args.tree.now c.args.serves.now c.loop-level.serves c.serve_first_level.new.serves c.serve_first_level.new.changes
+    c.loop-level.invariant.8 c.serve_first_level.ensures.seen
 
 pub returns-clause-tick : goal.returns-clause-tick
 returns-clause-tick c = c.serve_first_level.ensures.tick ∙ c.loop-level.invariant.1
@@ -114,7 +129,8 @@ pub serve_level-requires-clause-above_first : goal.serve_level-requires-clause-a
 serve_level-requires-clause-above_first c = let on = c.loop-level-test.true in omega (arith, on)
 
 pub serve_level-requires-clause-above : goal.serve_level-requires-clause-above
-serve_level-requires-clause-above c = let on = c.loop-level-test.true in let one : c.loop-level.level - 1 + 1 ≡ c.loop-level.level = omega (arith, on) in subst (λ (l : ℕ). AreFreshFrom c.args.tree.now c.loop-level.stale l) (sym one) c.loop-level.invariant.5
+serve_level-requires-clause-above c = let on = c.loop-level-test.true in let one : c.loop-level.level - 1 + 1 ≡ c.loop-level.level = omega (arith, on) in
+    subst (λ (l : ℕ). AreFreshFrom c.args.tree.now c.loop-level.stale l) (sym one) c.loop-level.invariant.5
 
 pub loop-level-smaller : goal.loop-level-smaller
 loop-level-smaller c = let on = c.loop-level-test.true in omega (arith, on)

@@ -8,7 +8,8 @@ abbrev pub invariant-loop-level : goal.invariant-loop-level
 invariant-loop-level l =
     (l.level ≤ l.tree.levels) × (l.dues.tick ≡ l.fn.dues.tick) × (l.dues.remains ≡ l.fn.dues.remains) × (length l.dues.runs ≡ length l.fn.dues.runs)
     × IsServing l.tree l.dues l.ends (lists l.ready l.serves l.dry l.stale l.runs) × AreFreshFrom l.tree l.stale l.level × (1 ≤ l.level)
-    × AreSettledFrom l.tree l.places.onto l.stale l.runs 0 × ((k : ℕ) → k < length (packs_at l.tree 0) → first_served l.tree l.serves k ≡ first_served l.tree l.fn.serves k)
+    × AreSettledFrom l.tree l.places.onto l.stale l.runs 0 × ((k : ℕ) → k < length (packs_at l.tree 0) → first_served l.tree l.serves k ≡ first_served
+    l.tree l.fn.serves k)
     × (length l.stale ≡ length l.fn.stale)
 
 abbrev pub decreases-loop-level : goal.decreases-loop-level

@@ -69,7 +69,8 @@ pub serve_listed-requires-clause-pack : goal.serve_listed-requires-clause-pack
 serve_listed-requires-clause-pack c = c.in-Some.ensures.some.pack
 
 pub serve_listed-requires-clause-first : goal.serve_listed-requires-clause-first
-serve_listed-requires-clause-first c = pack_level c.args.tree.now c.requires.tree 0 c.in-Some.next.place c.in-Some.next.pack.0 c.in-Some.ensures.some.place c.in-Some.ensures.some.at
+serve_listed-requires-clause-first c = pack_level c.args.tree.now c.requires.tree 0 c.in-Some.next.place c.in-Some.next.pack.0 c.in-Some.ensures.some.place
+    c.in-Some.ensures.some.at
 
 pub serve_listed-requires-clause-held : goal.serve_listed-requires-clause-held
 serve_listed-requires-clause-held c = let place = c.in-Some.ensures.some.place in let last = c.requires.last in omega (arith, place, last)
@@ -84,7 +85,8 @@ serve_listed-requires-clause-long c = record {
 }
 
 pub serve_listed-requires-clause-fits : goal.serve_listed-requires-clause-fits
-serve_listed-requires-clause-fits c = fitting_still c.args.tree.now c.args.dues.now c.marked.dues c.marked.invariant.tick c.marked.invariant.remains c.requires.fits
+serve_listed-requires-clause-fits c = fitting_still c.args.tree.now c.args.dues.now c.marked.dues c.marked.invariant.tick c.marked.invariant.remains
+    c.requires.fits
 
 pub serve_listed-requires-clause-serving : goal.serve_listed-requires-clause-serving
 serve_listed-requires-clause-serving c = c.marked.invariant.serving
@@ -119,7 +121,8 @@ serve_listed-requires-clause-begun c =
     omega (arith, place, after, room, kept, few, long)
 
 pub overflow_add-from : goal.overflow_add-from
-overflow_add-from c = let n = c.packs-count.ensures in let few = c.packs-count.type_inv in let place = c.in-Some.ensures.some.place in omega (arith, n, few, place)
+overflow_add-from c = let n = c.packs-count.ensures in let few = c.packs-count.type_inv in let place = c.in-Some.ensures.some.place in
+    omega (arith, n, few, place)
 
 pub marked-preserved : goal.marked-preserved
 marked-preserved c =
@@ -136,13 +139,15 @@ marked-preserved c =
     let passed : (k : ℕ) → c.marked.from ≤ k → k < i → get_or c.marked.stale (get_or (packs_at t 0) k 0) false ≡ false = (λ k low up. found.skipped k up) in
     let over = fresh_skip t c.marked.stale 0 c.marked.from i was.fresh passed in
     let settled_there = settled_skip t onto c.marked.stale c.marked.runs c.marked.from i found.after within passed was.settled in
-    let stopped_there = stops_skip t onto c.marked.stale c.marked.runs c.marked.from i found.after within passed was.settled c.marked.changes.stopped was.stopped in
+    let stopped_there = stops_skip t onto c.marked.stale c.marked.runs c.marked.from i found.after within passed was.settled c.marked.changes.stopped
+    was.stopped in
     let begun_there = begins_skip t onto c.marked.stale c.marked.runs c.marked.from i found.after within passed was.settled c.marked.changes.begun was.begun in
     let stale = c.serve_listed.new.stale in
     let runs = c.serve_listed.new.runs in
     let fresh = fresh_step t h c.marked.stale stale 0 i p l at over c.serve_listed.ensures.own c.serve_listed.ensures.marks in
     let same : (k : ℕ) → k < i → first_runs t runs k ≡ first_runs t c.marked.runs k =
-    (λ k m. let is_pack = first_is_pack t h k (omega (arith, m, l)) in c.serve_listed.ensures.unchanged.unchanged (get_or (packs_at t 0) k 0) is_pack (fresh (get_or (packs_at t 0) k 0) is_pack (inr (k, omega (arith, m), refl)))) in
+    (λ k m. let is_pack = first_is_pack t h k (omega (arith, m, l)) in c.serve_listed.ensures.unchanged.unchanged (get_or (packs_at t 0) k 0) is_pack
+    (fresh (get_or (packs_at t 0) k 0) is_pack (inr (k, omega (arith, m), refl)))) in
     let here : first_runs t runs i ≡ get_or runs p false = ap (λ q. get_or runs q false) (sym at) in
     let few = was.few in
     let after = found.after in
@@ -155,23 +160,35 @@ marked-preserved c =
       fresh = fresh;
       settled = settled_rest t h onto c.marked.stale c.marked.runs stale runs p i l at c.serve_listed.ensures.unchanged settled_there;
       room = c.serve_listed.ensures.room ∙ was.room;
-      stopped = listed_step (λ k. not (first_runs t c.marked.runs k) && is_held onto k) (λ k. not (first_runs t runs k) && is_held onto k) c.marked.changes.stopped c.serve_listed.new.changes.stopped i _
-          (λ k m. ap (λ (r : Bool). not r && is_held onto k) (same k m)) (ap (λ (r : Bool). not r && is_held onto i) here) stopped_there c.serve_listed.ensures.stopped;
-      begun = listed_step (λ k. first_runs t c.marked.runs k && not (is_held onto k)) (λ k. first_runs t runs k && not (is_held onto k)) c.marked.changes.begun c.serve_listed.new.changes.begun i _
-          (λ k m. ap (λ (r : Bool). r && not (is_held onto k)) (same k m)) (ap (λ (r : Bool). r && not (is_held onto i)) here) begun_there c.serve_listed.ensures.begun;
+      stopped = listed_step (λ k. not (first_runs t c.marked.runs k) && is_held onto k) (λ k. not (first_runs t runs k) && is_held onto k)
+          c.marked.changes.stopped c.serve_listed.new.changes.stopped i _
+          (λ k m. ap (λ (r : Bool). not r && is_held onto k) (same k m)) (ap (λ (r : Bool). not r && is_held onto i) here) stopped_there
+          c.serve_listed.ensures.stopped;
+      begun = listed_step (λ k. first_runs t c.marked.runs k && not (is_held onto k)) (λ k. first_runs t runs k && not (is_held onto k))
+          c.marked.changes.begun c.serve_listed.new.changes.begun i _
+          (λ k m. ap (λ (r : Bool). r && not (is_held onto k)) (same k m)) (ap (λ (r : Bool). r && not (is_held onto i)) here) begun_there
+          c.serve_listed.ensures.begun;
       within = omega (arith, l);
       seen = elim c.serve_listed.ensures.seen [
         | inl more ↦ seen_step t c.args.serves.now c.marked.serves c.serve_listed.new.serves c.marked.changes c.serve_listed.new.changes p i l at _ _
             c.serve_listed.ensures.others more c.serve_listed.ensures.stopped c.serve_listed.ensures.begun was.seen
-        | inr (none, own, still) ↦ seen_same t c.args.serves.now c.marked.serves c.serve_listed.new.serves c.marked.changes c.serve_listed.new.changes p i _ _ c.serve_listed.ensures.others own none
+        | inr (none, own, still) ↦ seen_same t c.args.serves.now c.marked.serves c.serve_listed.new.serves c.marked.changes c.serve_listed.new.changes p i _
+            _ c.serve_listed.ensures.others own none
             (none_stops _ _ still) (none_begins _ _ still) c.serve_listed.ensures.stopped c.serve_listed.ensures.begun was.seen
       ];
       few = elim c.serve_listed.ensures.seen [
-        | inl more ↦ (let m = ap (λ (xs : List ℕ). length xs) more in let long = length-append c.marked.changes.seen (i ∷ []) in omega (arith, few, m, long, after))
+        | inl more ↦ (let m = ap (λ (xs : List ℕ). length xs) more in let long = length-append c.marked.changes.seen (i ∷ []) in omega (
+          arith,
+          few,
+          m,
+          long,
+          after,
+        ))
         | inr (none, own, still) ↦ (let m = ap (λ (xs : List ℕ). length xs) none in omega (arith, few, m, after))
       ];
       group = found.group;
-      before = unmarked_still t c.args.masks.now.groups 0 c.span-span.result c.span-span.ensures c.marked.stale stale p c.in-Some.next.group (pack_level t h 0 i p l at) found.in_span
+      before = unmarked_still t c.args.masks.now.groups 0 c.span-span.result c.span-span.ensures c.marked.stale stale p c.in-Some.next.group
+          (pack_level t h 0 i p l at) found.in_span
           c.serve_listed.ensures.own c.serve_listed.ensures.marks found.before;
     }
 
@@ -196,7 +213,8 @@ returns-clause-serving c = c.marked.invariant.serving
 pub returns-clause-fresh : goal.returns-clause-fresh
 returns-clause-fresh c =
     let t = c.args.tree.now in
-    fresh_all t c.requires.tree c.marked.stale 0 (length (packs_at t 0)) refl (fresh_skip t c.marked.stale 0 c.marked.from (length (packs_at t 0)) c.marked.invariant.fresh (λ k low up. c.in_default.ensures.none refl k up))
+    fresh_all t c.requires.tree c.marked.stale 0 (length (packs_at t 0)) refl (fresh_skip t c.marked.stale 0 c.marked.from (length (packs_at t 0))
+    c.marked.invariant.fresh (λ k low up. c.in_default.ensures.none refl k up))
 
 pub returns-clause-changed : goal.returns-clause-changed
 returns-clause-changed c =
@@ -204,7 +222,8 @@ returns-clause-changed c =
     let onto = c.args.places.now.onto in
     let was = c.marked.invariant in
     let all = length (packs_at t 0) in
-    let passed : (k : ℕ) → c.marked.from ≤ k → k < all → get_or c.marked.stale (get_or (packs_at t 0) k 0) false ≡ false = (λ k low up. c.in_default.ensures.none refl k up) in
+    let passed : (k : ℕ) → c.marked.from ≤ k → k < all → get_or c.marked.stale (get_or (packs_at t 0) k 0) false ≡ false =
+    (λ k low up. c.in_default.ensures.none refl k up) in
     changed_are t onto c.marked.runs c.marked.changes all refl
     (stops_skip t onto c.marked.stale c.marked.runs c.marked.from all was.within (le_refl all) passed was.settled c.marked.changes.stopped was.stopped)
     (begins_skip t onto c.marked.stale c.marked.runs c.marked.from all was.within (le_refl all) passed was.settled c.marked.changes.begun was.begun)

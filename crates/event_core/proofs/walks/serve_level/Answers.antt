@@ -52,7 +52,8 @@ pub next-requires-clause-before : goal.next-requires-clause-before
 next-requires-clause-before c = c.marked.invariant.before
 
 pub next-requires-clause-fresh : goal.next-requires-clause-fresh
-next-requires-clause-fresh c = fresh_below c.args.tree.now c.requires.tree c.marked.stale c.args.level c.marked.from c.marked.invariant.within c.marked.invariant.fresh
+next-requires-clause-fresh c = fresh_below c.args.tree.now c.requires.tree c.marked.stale c.args.level c.marked.from c.marked.invariant.within
+    c.marked.invariant.fresh
 
 pub serve_pack-requires-clause-tree : goal.serve_pack-requires-clause-tree
 serve_pack-requires-clause-tree c = c.requires.tree
@@ -70,7 +71,8 @@ serve_pack-requires-clause-long c = record {
 }
 
 pub serve_pack-requires-clause-fits : goal.serve_pack-requires-clause-fits
-serve_pack-requires-clause-fits c = fitting_still c.args.tree.now c.args.dues.now c.marked.dues c.marked.invariant.tick c.marked.invariant.remains c.requires.fits
+serve_pack-requires-clause-fits c = fitting_still c.args.tree.now c.args.dues.now c.marked.dues c.marked.invariant.tick c.marked.invariant.remains
+    c.requires.fits
 
 pub serve_pack-requires-clause-serving : goal.serve_pack-requires-clause-serving
 serve_pack-requires-clause-serving c = c.marked.invariant.serving
@@ -93,16 +95,19 @@ marked-preserved c =
       long = c.serve_pack.ensures.unchanged.long ∙ was.long;
       serving = c.serve_pack.ensures.serving;
       fresh = fresh_step t h c.marked.stale stale l next.place next.pack.0 place found.at over c.serve_pack.ensures.own c.serve_pack.ensures.marks;
-      settled = λ onto s. settled_above t h onto c.marked.stale c.marked.runs stale c.serve_pack.new.runs next.pack.0 c.serve_pack.ensures.unchanged l next.place c.requires.above_first place found.at (was.settled onto s);
+      settled = λ onto s. settled_above t h onto c.marked.stale c.marked.runs stale c.serve_pack.new.runs next.pack.0 c.serve_pack.ensures.unchanged l
+          next.place c.requires.above_first place found.at (was.settled onto s);
       within = omega (arith, place);
       first = λ k b. c.serve_pack.ensures.others _ (above_first t h l next.place next.pack.0 c.requires.above_first place found.at k b) ∙ was.first k b;
       group = found.group;
-      before = unmarked_still t c.args.masks.now.groups l c.span-span.result c.span-span.ensures c.marked.stale stale next.pack.0 next.group (pack_level t h l next.place next.pack.0 place found.at) found.in_span
+      before = unmarked_still t c.args.masks.now.groups l c.span-span.result c.span-span.ensures c.marked.stale stale next.pack.0 next.group
+          (pack_level t h l next.place next.pack.0 place found.at) found.in_span
           c.serve_pack.ensures.own c.serve_pack.ensures.marks found.before;
     }
 
 pub overflow_add-from : goal.overflow_add-from
-overflow_add-from c = let n = c.packs-count.ensures in let few = c.packs-count.type_inv in let place = c.in-Some.ensures.some.place in omega (arith, n, few, place)
+overflow_add-from c = let n = c.packs-count.ensures in let few = c.packs-count.type_inv in let place = c.in-Some.ensures.some.place in
+    omega (arith, n, few, place)
 
 pub marked-smaller : goal.marked-smaller
 marked-smaller c = let after = c.in-Some.ensures.some.after in let place = c.in-Some.ensures.some.place in omega (arith, after, place)
@@ -126,7 +131,8 @@ pub returns-clause-fresh : goal.returns-clause-fresh
 returns-clause-fresh c =
     let t = c.args.tree.now in
     fresh_all t c.requires.tree c.marked.stale c.args.level (length (packs_at t c.args.level)) refl
-    (fresh_skip t c.marked.stale c.args.level c.marked.from (length (packs_at t c.args.level)) c.marked.invariant.fresh (λ k low up. c.in_default.ensures.none refl k up))
+    (fresh_skip t c.marked.stale c.args.level c.marked.from (length (packs_at t c.args.level)) c.marked.invariant.fresh
+    (λ k low up. c.in_default.ensures.none refl k up))
 
 pub returns-clause-settled : goal.returns-clause-settled
 returns-clause-settled c = c.marked.invariant.settled

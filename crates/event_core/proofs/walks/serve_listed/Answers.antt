@@ -46,11 +46,13 @@ list_if-requires-clause-seen c = c.requires.seen
 
 pub returns-clause-stopped : goal.returns-clause-stopped
 returns-clause-stopped c =
-    c.list_if.ensures.stopped ∙ ap (λ (held : Bool). with_pack c.args.changes.now.stopped c.args.i (not (get_or c.serve_pack-is_other.new.runs c.args.p.0 false) && held)) c.holds.ensures
+    c.list_if.ensures.stopped ∙ ap (λ (held : Bool). with_pack c.args.changes.now.stopped c.args.i (not (get_or c.serve_pack-is_other.new.runs c.args.p.0
+    false) && held)) c.holds.ensures
 
 pub returns-clause-begun : goal.returns-clause-begun
 returns-clause-begun c =
-    c.list_if.ensures.begun ∙ ap (λ (held : Bool). with_pack c.args.changes.now.begun c.args.i (get_or c.serve_pack-is_other.new.runs c.args.p.0 false && not held)) c.holds.ensures
+    c.list_if.ensures.begun ∙ ap (λ (held : Bool). with_pack c.args.changes.now.begun c.args.i (get_or c.serve_pack-is_other.new.runs c.args.p.0 false &&
+    not held)) c.holds.ensures
 
 pub serve_pack-is_other-requires-clause-tree : goal.serve_pack-is_other-requires-clause-tree
 serve_pack-is_other-requires-clause-tree c = c.requires.tree

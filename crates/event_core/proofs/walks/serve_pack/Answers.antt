@@ -8,7 +8,8 @@ use Rattle.event_core.proofs.walks.serve_pack.Goals as goal
 
 pub serve-next-requires-clause-ready : goal.serve-next-requires-clause-ready
 serve-next-requires-clause-ready c =
-    ap (λ (xs : List ℕ). length xs) c.ready_at.ensures ∙ ready_long c.args.tree.now c.args.dues.now.remains c.args.ends.now c.args.p.0 _ (c.requires.serving.picks c.args.p.0 c.requires.pack)
+    ap (λ (xs : List ℕ). length xs) c.ready_at.ensures ∙ ready_long c.args.tree.now c.args.dues.now.remains c.args.ends.now c.args.p.0 _
+    (c.requires.serving.picks c.args.p.0 c.requires.pack)
 
 pub serve-next-requires-clause-before : goal.serve-next-requires-clause-before
 serve-next-requires-clause-before c = λ j e. c.requires.serving.within c.args.p.0 j c.requires.pack e
@@ -26,10 +27,14 @@ pub returns-clause-serving : goal.returns-clause-serving
 returns-clause-serving c =
     let b = c.requires.pack.0 in
     let long = c.requires.long.serves in
-    serving_step c.args.tree.now c.args.dues.now c.serve-next.new.dues c.args.ends.now (lists c.args.ready.now c.args.serves.now c.args.dry.now c.args.stale.now c.args.runs.now) (lists c.args.ready.now _ _ c.serve-next.new.stale c.serve-next.new.runs) c.args.p.0 c.serve-next.result.place
-    c.requires.pack (omega (arith, b, long)) c.serve-next.ensures.tick c.serve-next.ensures.remains refl refl (c.set.ensures ∙ ap (λ (n : ℕ). set c.args.dry.now c.args.p.0 n) c.serve-next.ensures.dry)
-    c.serve-next.ensures.within c.serve-next.ensures.now c.serve-next.ensures.others c.serve-next.ensures.agree c.serve-next.ensures.rest c.serve-next.ensures.unmarked c.serve-next.ensures.led
-    (c.serve-next.ensures.served c.args.ends.now (subst (λ (xs : List ℕ). AreReady (candidates c.args.tree.now c.args.dues.now.remains c.args.ends.now c.args.p.0) xs) (sym c.ready_at.ensures) (c.requires.serving.picks c.args.p.0 c.requires.pack)) c.requires.serving.served) c.requires.serving
+    serving_step c.args.tree.now c.args.dues.now c.serve-next.new.dues c.args.ends.now (lists c.args.ready.now c.args.serves.now c.args.dry.now
+    c.args.stale.now c.args.runs.now) (lists c.args.ready.now _ _ c.serve-next.new.stale c.serve-next.new.runs) c.args.p.0 c.serve-next.result.place
+    c.requires.pack (omega (arith, b, long)) c.serve-next.ensures.tick c.serve-next.ensures.remains refl refl (c.set.ensures
+    ∙ ap (λ (n : ℕ). set c.args.dry.now c.args.p.0 n) c.serve-next.ensures.dry)
+    c.serve-next.ensures.within c.serve-next.ensures.now c.serve-next.ensures.others c.serve-next.ensures.agree c.serve-next.ensures.rest
+    c.serve-next.ensures.unmarked c.serve-next.ensures.led
+    (c.serve-next.ensures.served c.args.ends.now (subst (λ (xs : List ℕ). AreReady (candidates c.args.tree.now c.args.dues.now.remains c.args.ends.now
+    c.args.p.0) xs) (sym c.ready_at.ensures) (c.requires.serving.picks c.args.p.0 c.requires.pack)) c.requires.serving.served) c.requires.serving
 
 pub returns-clause-unchanged : goal.returns-clause-unchanged
 returns-clause-unchanged c = record { unmarked = c.serve-next.ensures.unmarked; unchanged = c.serve-next.ensures.unchanged; long = c.serve-next.ensures.long }

@@ -29,7 +29,12 @@ pub returns-then-is_some-clause-some : goal.returns-then-is_some-clause-some
 returns-then-is_some-clause-some g c =
     let at = cause_is g (goal.at.returns-then-is_some-clause-some g c).After-is_some in
     let lane = c.lane-item.is ∙ get_or_default c.args.lanes.now c.loop-lane.lane-index c.lane-item.result no_lane c.loop-lane-test.true in
-    λ _. (c.loop-lane.lane-index, c.loop-lane-test.true, λ none. not_none c.lane.inside.cause (sym c.is_some.ensures ∙ c.if-is_some.true) (at ∙ ap (λ (l : LaneContents). l.cause) lane ∙ none))
+    λ _. (
+      c.loop-lane.lane-index,
+      c.loop-lane-test.true,
+      λ none. not_none c.lane.inside.cause (sym c.is_some.ensures ∙ c.if-is_some.true)
+          (at ∙ ap (λ (l : LaneContents). l.cause) lane ∙ none),
+    )
 
 pub loop-lane-preserved : goal.loop-lane-preserved
 loop-lane-preserved g c =

@@ -19,4 +19,6 @@ pub returns-in-None-clause-some : goal.returns-in-None-clause-some
 returns-in-None-clause-some g c = c.first_job.ensures.some
 
 pub returns-in-None-clause-none : goal.returns-in-None-clause-none
-returns-in-None-clause-none g c = if_none {B = NoGateBefore c.args.lanes.now (length c.args.lanes.now) × NoJobBefore c.args.lanes.now (length c.args.lanes.now)} c.first_job.result (λ no_job. (c.in-None.ensures.none, no_job)) c.first_job.ensures.none
+returns-in-None-clause-none g c =
+    if_none {B = NoGateBefore c.args.lanes.now (length c.args.lanes.now) × NoJobBefore c.args.lanes.now (length c.args.lanes.now)} c.first_job.result
+    (λ no_job. (c.in-None.ensures.none, no_job)) c.first_job.ensures.none

@@ -28,7 +28,8 @@ bounds-lanes-p g c = c.loop-p-test.true
 
 module _ (g : _) (c : After-cause g) where
   cause_is : (lane_in c.args.lanes.now c.loop-p.p).cause ≡ c.cause.result.now
-  cause_is = ap (λ (l : LaneContents). l.cause) (sym (c.index-lanes-p.is ∙ get_or_default c.args.lanes.now c.loop-p.p c.index-lanes-p.result no_lane c.loop-p-test.true)) ∙ sym c.cause.ensures
+  cause_is = ap (λ (l : LaneContents). l.cause) (sym (c.index-lanes-p.is ∙ get_or_default c.args.lanes.now c.loop-p.p c.index-lanes-p.result no_lane
+      c.loop-p-test.true)) ∙ sym c.cause.ensures
 
 pub returns-in-Some-Gate-clause-some : goal.returns-in-Some-Gate-clause-some
 returns-in-Some-Gate-clause-some g c =
@@ -37,6 +38,7 @@ returns-in-Some-Gate-clause-some g c =
     ((c.loop-p-test.true, at ∙ c.in-Some-Gate.is ∙ ap (λ (o : Cause). Some o) is), c.loop-p.invariant)
 
 pub loop-p-preserved : goal.loop-p-preserved
-loop-p-preserved g c = λ q r below failed. each_lane (λ l. (r : Row) → l.cause ≡ Some (cause.Gate r) → ⊥) c.args.lanes.now c.loop-p.p c.index-lanes-p.result c.loop-p-test.true c.index-lanes-p.is
+loop-p-preserved g c = λ q r below failed. each_lane (λ l. (r : Row) → l.cause ≡ Some (cause.Gate r) → ⊥) c.args.lanes.now c.loop-p.p c.index-lanes-p.result
+    c.loop-p-test.true c.index-lanes-p.is
     (λ r is. search rules)
     (λ p below r is. c.loop-p.invariant p r below (let end = c.loop-p-test.true in omega (arith, below, end), is)) q below r failed.1

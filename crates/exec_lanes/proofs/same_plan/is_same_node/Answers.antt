@@ -44,5 +44,6 @@ dual-requires-then-is_same_list c = c.requires.second
 pub returns-else-is_same_list : goal.returns-else-is_same_list
 returns-else-is_same_list c = (
   λ is. untrue (sym c.if-is_same_list.false ∙ is),
-  λ same. absurd (iff_false c.is_same_list.ensures c.if-is_same_list.false (same_numbers _ _ (c.members.ensures ∙ ap (λ (n : Node). n.members) same ∙ sym c.members-2.ensures))),
+  λ same. absurd (iff_false c.is_same_list.ensures c.if-is_same_list.false (same_numbers _ _ (c.members.ensures ∙ ap (λ (n : Node). n.members) same
+      ∙ sym c.members-2.ensures))),
 )

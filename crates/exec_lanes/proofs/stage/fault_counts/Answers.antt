@@ -34,5 +34,6 @@ loop-t-preserved g c =
     let own : length c.loop-t.counts.items ≡ c.loop-t.counts.len = search rules in (
       (let long = c.in_ok-push.ensures.len in let count = inv.0 in omega (arith, long, count)),
       λ t job below at. rw c.in_ok-push.ensures.items
-          (each_push_or 0 (λ q x. (k : g.row.J.Denot) → JobAt c.args.jobs.now.places q k → x ≡ g.J.Job.faults k) c.loop-t.counts.items c.loop-t.t c.faults.result (own ∙ inv.0) c.faults.ensures (λ q before k at. inv.1 q k before at) t below job at),
+          (each_push_or 0 (λ q x. (k : g.row.J.Denot) → JobAt c.args.jobs.now.places q k → x ≡ g.J.Job.faults k) c.loop-t.counts.items c.loop-t.t
+          c.faults.result (own ∙ inv.0) c.faults.ensures (λ q before k at. inv.1 q k before at) t below job at),
     )

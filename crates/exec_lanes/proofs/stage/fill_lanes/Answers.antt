@@ -20,7 +20,11 @@ take_gate-gate-requires-clause-filled g c =
     (kit.0, c.loop-p.invariant.other_kits c.loop-p.p (omega arith) ∙ kit.1)
 
 pub lift-seat-requires : goal.lift-seat-requires
-lift-seat-requires g c = (record { lane = c.loop-p.p; posted = 0 }, c.loop-p.invariant.other_seats c.loop-p.p (omega arith) ∙ c.requires.seats c.loop-p.p c.loop-p-test.true)
+lift-seat-requires g c = (
+  record { lane = c.loop-p.p; posted = 0 },
+  c.loop-p.invariant.other_seats c.loop-p.p (omega arith) ∙ c.requires.seats c.loop-p.p
+      c.loop-p-test.true,
+)
 
 pub loop-p-preserved : goal.loop-p-preserved
 loop-p-preserved g c =
@@ -28,19 +32,23 @@ loop-p-preserved g c =
     let p = c.loop-p.p in
     let kit_in = slice_get_within c.loop-p.kits p _ c.take_gate-gate.ensures.gate in
     let seat_in = slice_get_within c.loop-p.seats p _ c.lift-seat.ensures.seat in
-    let start' : c.lift-seat.result ≡ record { lane = p; posted = 0 } = same_seat c.loop-p.seats p c.lift-seat.result _ c.lift-seat.ensures.seat (inv.other_seats p (omega arith) ∙ c.requires.seats p c.loop-p-test.true) in
+    let start' : c.lift-seat.result ≡ record { lane = p; posted = 0 } = same_seat c.loop-p.seats p c.lift-seat.result _ c.lift-seat.ensures.seat
+    (inv.other_seats p (omega arith) ∙ c.requires.seats p c.loop-p-test.true) in
     record {
       count = (let len = c.push_reserved.ensures.len in let count = inv.count in omega (arith, len, count));
       room = c.push_reserved.ensures.capacity ∙ inv.room;
       all_kits = ap length c.take_gate-gate.ensures.kits ∙ length-set c.loop-p.kits p (record { gate = None }) ∙ inv.all_kits;
       all_seats = ap length c.lift-seat.ensures.rest ∙ length-set c.loop-p.seats p None ∙ inv.all_seats;
-      filled = λ q gate below at. rw c.push_reserved.ensures.items (each_push_or no_lane (λ n lane. (k : g.row.G.Denot) → KitAt c.args.kits.now n k → lane ≡ lane_at_start g.G.Gate.ran g.G.Gate.faults n k) c.loop-p.lanes.items p c.new.result (let count = inv.count in omega (arith, count))
+      filled = λ q gate below at. rw c.push_reserved.ensures.items (each_push_or no_lane (λ n lane. (k : g.row.G.Denot) → KitAt c.args.kits.now n k →
+          lane ≡ lane_at_start g.G.Gate.ran g.G.Gate.faults n k) c.loop-p.lanes.items p c.new.result (let count = inv.count in omega (arith, count))
           (λ k there.
           let same' = same_gate c.loop-p.kits p c.take_gate-gate.result k c.take_gate-gate.ensures.gate (inv.other_kits p (omega arith) ∙ there) in
           c.new.ensures ∙ (λ i. record { ran = g.G.Gate.ran (same' i); faults = g.G.Gate.faults (same' i); seat = start' i; cause = None }))
           (λ n below' k there. inv.filled n k below' there) q below gate at);
-      out = rw c.take_gate-gate.ensures.kits (below_set (λ q place. place ≡ Some (record { gate = None })) c.loop-p.kits p (record { gate = None }) kit_in refl inv.out);
-      other_kits = rw c.take_gate-gate.ensures.kits (above_set (λ q place. place ≡ slice_get c.args.kits.now q) c.loop-p.kits p (record { gate = None }) inv.other_kits);
+      out = rw c.take_gate-gate.ensures.kits (below_set (λ q place. place ≡ Some (record { gate = None })) c.loop-p.kits p (record { gate = None }) kit_in
+          refl inv.out);
+      other_kits = rw c.take_gate-gate.ensures.kits (above_set (λ q place. place ≡ slice_get c.args.kits.now q) c.loop-p.kits p (record { gate = None })
+          inv.other_kits);
       lifted = rw c.lift-seat.ensures.rest (below_set (λ q place. place ≡ Some None) c.loop-p.seats p None seat_in refl inv.lifted);
       other_seats = rw c.lift-seat.ensures.rest (above_set (λ q place. place ≡ slice_get c.args.seats.now q) c.loop-p.seats p None inv.other_seats);
     }

@@ -19,7 +19,8 @@ loop-t-preserved g c =
     let rest : c.lift.new.self.places ≡ _ = ap (λ (s : JobPlaces g.row.J.Denot). s.places) c.lift.ensures.rest in
     let laid : c.lay.new.self.places ≡ _ = ap (λ (s : JobPlaces g.row.J.Denot). s.places) c.lay.ensures in
     record {
-      laid = rw laid (below_set (λ t place. place ≡ slice_get c.args.back.now.places t) c.loop-t.jobs.places c.loop-t.t (Some c.lift.result) within (sym c.lift.ensures.job ∙ inv.left c.loop-t.t (omega arith)) inv.laid);
+      laid = rw laid (below_set (λ t place. place ≡ slice_get c.args.back.now.places t) c.loop-t.jobs.places c.loop-t.t (Some c.lift.result) within
+          (sym c.lift.ensures.job ∙ inv.left c.loop-t.t (omega arith)) inv.laid);
       left = rw rest (above_set (λ t place. place ≡ slice_get c.args.back.now.places t) c.loop-t.back.places c.loop-t.t None inv.left);
       others = rw laid (above_set (λ t place. place ≡ slice_get c.args.jobs.now.places t) c.loop-t.jobs.places c.loop-t.t (Some c.lift.result) inv.others);
       room = ap (λ (s : JobPlaces g.row.J.Denot). s.room) c.lay.ensures ∙ inv.room;

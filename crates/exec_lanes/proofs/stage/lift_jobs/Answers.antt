@@ -19,7 +19,8 @@ loop-t-preserved g c =
     record {
       count = rw c.add.ensures.places (length_push c.loop-t.out.places (Some c.lift.result) ∙ ap (λ n. n + 1) inv.count);
       left = (let room = c.add.ensures.room in let left = inv.left in omega (arith, room, left));
-      moved = rw c.add.ensures.places (each_push (λ t place. place ≡ slice_get c.args.jobs.now.places t) c.loop-t.out.places c.loop-t.t (Some c.lift.result) inv.count (sym c.lift.ensures.job ∙ inv.others c.loop-t.t (omega arith)) inv.moved);
+      moved = rw c.add.ensures.places (each_push (λ t place. place ≡ slice_get c.args.jobs.now.places t) c.loop-t.out.places c.loop-t.t (Some c.lift.result)
+          inv.count (sym c.lift.ensures.job ∙ inv.others c.loop-t.t (omega arith)) inv.moved);
       lifted = rw rest (below_set (λ t place. place ≡ Some None) c.loop-t.jobs.places c.loop-t.t None within refl inv.lifted);
       others = rw rest (above_set (λ t place. place ≡ slice_get c.args.jobs.now.places t) c.loop-t.jobs.places c.loop-t.t None inv.others);
       room = ap (λ (s : JobPlaces g.row.J.Denot). s.room) c.lift.ensures.rest ∙ inv.room;

@@ -20,11 +20,13 @@ loop-t-preserved g c =
       count = rw c.push.ensures.ticks (length_push c.loop-t.totals.ticks c.used.result ∙ ap (λ n. n + 1) inv.count);
       left = let room = c.push.ensures.room in let left = inv.left in omega (arith, room, left);
       ticks = λ t job below at. rw c.push.ensures.ticks
-          (each_push_or 0 (λ q x. (k : g.row.J.Denot) → JobAt c.args.jobs.now.places q k → x ≡ g.J.Job.used k) c.loop-t.totals.ticks c.loop-t.t c.used.result inv.count c.used.ensures (λ q before k at. inv.ticks q k before at) t below job at);
+          (each_push_or 0 (λ q x. (k : g.row.J.Denot) → JobAt c.args.jobs.now.places q k → x ≡ g.J.Job.used k) c.loop-t.totals.ticks c.loop-t.t
+          c.used.result inv.count c.used.ensures (λ q before k at. inv.ticks q k before at) t below job at);
     }
 
 pub returns-clause-count : goal.returns-clause-count
-returns-clause-count g c = let count = c.loop-t.invariant.count in let end = c.loop-t-test.false in let up = c.loop-t.auto.t-end in omega (arith, count, end, up)
+returns-clause-count g c = let count = c.loop-t.invariant.count in let end = c.loop-t-test.false in let up = c.loop-t.auto.t-end in
+    omega (arith, count, end, up)
 
 pub returns-clause-ticks : goal.returns-clause-ticks
 returns-clause-ticks g c = λ t job below at. c.loop-t.invariant.ticks t job (let end = c.loop-t-test.false in omega (arith, below, end)) at

@@ -7,7 +7,8 @@ use Rattle.exec_lanes.proofs.stage.take_gate.Goals as goal
 use Rattle.exec_lanes.proofs.stage.take_gate.Goals.{After-take}
 
 taken : (g : _) (c : After-take g) → c.take.result ≡ Some c.requires.filled.0
-taken g c = c.take.ensures.value ∙ ap (λ (k : Kit g.row.G.Denot). k.gate) (get_or_from_slice_get c.args.kits.now c.args.p (record { gate = Some c.requires.filled.0 }) _ c.requires.filled.1)
+taken g c = c.take.ensures.value ∙ ap (λ (k : Kit g.row.G.Denot). k.gate) (get_or_from_slice_get c.args.kits.now c.args.p
+    (record { gate = Some c.requires.filled.0 }) _ c.requires.filled.1)
 
 pub unwrap-requires : goal.unwrap-requires
 unwrap-requires g c = subst (λ o. IsSome o) (sym (taken g (goal.at.unwrap-requires g c).After-take)) refl

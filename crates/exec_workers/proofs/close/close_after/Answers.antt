@@ -5,7 +5,8 @@ use Rattle.exec_workers.proofs.CloseLemmas.{due_by_counts}
 use Rattle.exec_workers.proofs.close.close_after.Goals as goal
 use Rattle.exec_workers.proofs.close.close_after.Goals.{After-deref_mut-held}
 
-found : (g : _) (c : After-deref_mut-held g) → IsClosableAfter g.J.Job.faults c.args.work.now.plan.now c.args.window c.deref_mut-held.result.now c.args.lanes.now c.args.posted.now c.args.counts.now
+found : (g : _) (c : After-deref_mut-held g) → IsClosableAfter g.J.Job.faults c.args.work.now.plan.now c.args.window c.deref_mut-held.result.now
+    c.args.lanes.now c.args.posted.now c.args.counts.now
 found g c =
     subst (λ b. IsClosableAfter g.J.Job.faults c.args.work.now.plan.now c.args.window b c.args.lanes.now c.args.posted.now c.args.counts.now)
     (sym c.deref_mut-held.ensures.value) c.lock_closable_after-guard.ensures

@@ -26,8 +26,11 @@ new-requires-clause-jobs g c = λ t within.
     let n = tasks g (goal.at.new-requires-clause-jobs g c).After-count-n in
     let same = ap (λ (p : PlanContents). length p.set.tasks) c.in_ok-copy.ensures in
     let inside : t < length c.args.plan.now.set.tasks = subst (λ k. t < k) same within in
-    let job = c.requires.jobs t inside in
-    (job.0, c.lift_jobs.ensures.out t (subst (λ k. t < k) (sym n) inside) ∙ job.1, record { own = job.2; worked = job.3; agrees = c.requires.made t job.0 inside job.1 })
+    let job = c.requires.jobs t inside in (
+      job.0,
+      c.lift_jobs.ensures.out t (subst (λ k. t < k) (sym n) inside) ∙ job.1,
+      record { own = job.2; worked = job.3; agrees = c.requires.made t job.0 inside job.1 },
+    )
 
 pub lay_jobs-requires-clause-there : goal.lay_jobs-requires-clause-there
 lay_jobs-requires-clause-there g c = λ t below.

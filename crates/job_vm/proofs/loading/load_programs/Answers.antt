@@ -22,7 +22,8 @@ loop-i-preserved g c =
     let step = rw code at held in
     record {
       there = λ k below. let held = inv.there k below in c.in_ok-load.ensures.filled k held.0 held.1;
-      loaded = loaded_more g.J.Job c.args.scale c.args.text.now.programs c.args.set.now.tasks c.args.jobs.now.places c.loop-i.jobs.places _ c.loop-i.i c.index-tasks-i.result job.0 within is
+      loaded = loaded_more g.J.Job c.args.scale c.args.text.now.programs c.args.set.now.tasks c.args.jobs.now.places c.loop-i.jobs.places _ c.loop-i.i
+          c.index-tasks-i.result job.0 within is
           inv.loaded job.1 step;
       room = c.in_ok-load.ensures.room ∙ inv.room;
     }

@@ -46,10 +46,12 @@ returns-in_err-write_job-clause-wrote g c =
     let within : i < length tasks = omega (arith, count, test) in
     let is = rw c.tasks.ensures.value at c.index-tasks-i.is in
     let same = ap (λ (s : JobPlaces g.row.J.Denot). seen g.J.Job s.places) c.loop-i.invariant.same in
-    let line = line_of_task tasks c.args.scale jobs (seen g.J.Job c.loop-i.jobs.places) i c.index-tasks-i.result c.as_slice-in-loop-i.result.now _ within is c.as_slice-in-loop-i.ensures.bytes same c.told_at-units.ensures.told in
+    let line = line_of_task tasks c.args.scale jobs (seen g.J.Job c.loop-i.jobs.places) i c.index-tasks-i.result c.as_slice-in-loop-i.result.now _ within is
+    c.as_slice-in-loop-i.ensures.bytes same c.told_at-units.ensures.told in
     let wrote = rw line at c.in_err-write_job.ensures.wrote in
     let head = rw (c.as_slice.ensures.bytes, c.word_line.ensures) at c.in_ok-write_all.ensures.wrote in
-    rw jobs_text_is (wrote_then _ _ _ _ _ _ c.from_residual-in_err-write_job.result head (wrote_number (λ k. job_line (task_at tasks k).name (told_at c.args.scale jobs k)) (length tasks) i _ _ _ _ c.from_residual-in_err-write_job.result within
+    rw jobs_text_is (wrote_then _ _ _ _ _ _ c.from_residual-in_err-write_job.result head (wrote_number (λ k. job_line (task_at tasks k).name
+    (told_at c.args.scale jobs k)) (length tasks) i _ _ _ _ c.from_residual-in_err-write_job.result within
     c.loop-i.invariant.wrote wrote c.from_residual-in_err-write_job.ensures.0))
 
 pub loop-i-preserved : goal.loop-i-preserved
@@ -62,7 +64,8 @@ loop-i-preserved g c =
     let within : i < length tasks = omega (arith, count, test) in
     let is = rw c.tasks.ensures.value at c.index-tasks-i.is in
     let same = ap (λ (s : JobPlaces g.row.J.Denot). seen g.J.Job s.places) c.loop-i.invariant.same in
-    let line = line_of_task tasks c.args.scale jobs (seen g.J.Job c.loop-i.jobs.places) i c.index-tasks-i.result c.as_slice-in-loop-i.result.now _ within is c.as_slice-in-loop-i.ensures.bytes same c.told_at-units.ensures.told in
+    let line = line_of_task tasks c.args.scale jobs (seen g.J.Job c.loop-i.jobs.places) i c.index-tasks-i.result c.as_slice-in-loop-i.result.now _ within is
+    c.as_slice-in-loop-i.ensures.bytes same c.told_at-units.ensures.told in
     let wrote = rw line at c.in_ok-write_job.ensures.wrote.ok in
     let before = c.loop-i.invariant.later in
     let later = c.in_ok-write_job.ensures.cause.later in
@@ -76,7 +79,8 @@ pub told_at-units-requires-clause-scale : goal.told_at-units-requires-clause-sca
 told_at-units-requires-clause-scale g c = c.requires.scale
 
 pub returns-in_err-write_job-clause-cause : goal.returns-in_err-write_job-clause-cause
-returns-in_err-write_job-clause-cause g c = cause_cut _ _ _ _ _ (le_trans c.in_ok-write_all.ensures.cause.later c.loop-i.invariant.later) c.in_err-write_job.ensures.cause
+returns-in_err-write_job-clause-cause g c = cause_cut _ _ _ _ _ (le_trans c.in_ok-write_all.ensures.cause.later c.loop-i.invariant.later)
+    c.in_err-write_job.ensures.cause
 
 pub returns-clause-cause : goal.returns-clause-cause
 returns-clause-cause g c = record { later = le_trans c.in_ok-write_all.ensures.cause.later c.loop-i.invariant.later; failed = tt }

@@ -27,6 +27,7 @@ loop-number-preserved g c =
     let numbers = c.args.numbers.now in
     let i = c.loop-number.number-index in
     let line = rw (c.as_slice.ensures.bytes, c.word_of.ensures) at c.in_ok-write_all.ensures.wrote in (
-      item_written (λ n. 32 ∷ decimal n) numbers i (get_or numbers i 0) _ _ _ c.loop-number-test.true (get_or_default numbers i 0 (get_or numbers i 0) c.loop-number-test.true) c.loop-number.invariant.0 line.ok,
+      item_written (λ n. 32 ∷ decimal n) numbers i (get_or numbers i 0) _ _ _ c.loop-number-test.true (get_or_default numbers i 0 (get_or numbers i 0)
+          c.loop-number-test.true) c.loop-number.invariant.0 line.ok,
       le_trans c.loop-number.invariant.1 c.write_all.ensures.cause.later,
     )

@@ -20,8 +20,10 @@ pub play_all-requires-clause-leaves : goal.play_all-requires-clause-leaves
 play_all-requires-clause-leaves c = subst (λ (es : List Key). HasLeaves c.args.count es) (sym c.deref_mut.ensures.value) c.in_ok-keys.ensures.1
 
 pub invariant_of-result : goal.invariant_of-result
-invariant_of-result c = subst (λ (es : List Key). IsKnockout c.args.count es) (sym (back c.in_ok-keys.keys c.deref_mut.result.now c.play_all.new.keys c.deref_mut.ensures.value c.play_all.auto.keys)) c.play_all.ensures.knockout
+invariant_of-result c = subst (λ (es : List Key). IsKnockout c.args.count es) (sym (back c.in_ok-keys.keys c.deref_mut.result.now c.play_all.new.keys
+    c.deref_mut.ensures.value c.play_all.auto.keys)) c.play_all.ensures.knockout
 
 pub returns : goal.returns
-returns c = ap (ends_of c.args.count) (back c.in_ok-keys.keys c.deref_mut.result.now c.play_all.new.keys c.deref_mut.ensures.value c.play_all.auto.keys) ∙ c.play_all.ensures.ends
+returns c = ap (ends_of c.args.count) (back c.in_ok-keys.keys c.deref_mut.result.now c.play_all.new.keys c.deref_mut.ensures.value c.play_all.auto.keys)
+    ∙ c.play_all.ensures.ends
     ∙ ap (ends_of c.args.count) c.deref_mut.ensures.value ∙ c.in_ok-keys.ensures.2

@@ -18,7 +18,11 @@ pub returns-then-not-follow : goal.returns-then-not-follow
 returns-then-not-follow g c = served_on _ _ _ _ _ c.loop.invariant.0 c.loop.invariant.1 c.follow.ensures.served
 
 pub loop-preserved : goal.loop-preserved
-loop-preserved g c = (c.follow.ensures.more c.if-not-follow.false, served_on _ _ _ _ _ c.loop.invariant.0 c.loop.invariant.1 c.follow.ensures.served, c.follow.ensures.gives c.if-not-follow.false)
+loop-preserved g c = (
+  c.follow.ensures.more c.if-not-follow.false,
+  served_on _ _ _ _ _ c.loop.invariant.0 c.loop.invariant.1 c.follow.ensures.served,
+  c.follow.ensures.gives c.if-not-follow.false,
+)
 
 pub take_next-next-requires : goal.take_next-next-requires
 take_next-next-requires g c = record { agreed = c.requires.agreed }

@@ -3,7 +3,8 @@ use Rattle.locked_book.proofs.PlanLemmas.{same_plan}
 use Rattle.locked_book.proofs.found.is_of_run.Goals as goal
 
 pub returns-clause-plan : goal.returns-clause-plan
-returns-clause-plan g c = same_plan c.args.book.now.plan c.args.plan.now c.plan-of_run.ensures.lawful c.know_lawful.ensures.lawful c.plan-of_run.ensures.compiled c.requires.agreed.compiled (c.plan-of_run.ensures.set ∙ sym c.requires.agreed.set_is)
+returns-clause-plan g c = same_plan c.args.book.now.plan c.args.plan.now c.plan-of_run.ensures.lawful c.know_lawful.ensures.lawful
+    c.plan-of_run.ensures.compiled c.requires.agreed.compiled (c.plan-of_run.ensures.set ∙ sym c.requires.agreed.set_is)
 
 pub returns-clause-lawful : goal.returns-clause-lawful
 returns-clause-lawful g c = c.plan-of_run.ensures.lawful

@@ -58,7 +58,10 @@ returns g c same =
     record {
       plan = c.is_of_run.ensures.plan;
       undismissed = c.is_of_run.ensures.open c.if-not-is_of_run.false;
-      count = ap (λ k. posted_at c.args.book.now.state k) (sym c.lane-p.ensures) ∙ ap (λ (l : LaneState). l.posted) here ∙ c.if-lane-posted.false ∙ c.posted.ensures;
-      out = out_row c.args.book.now.table.lanes (plan_rows c.args.book.now.plan) c.args.book.now.state c.lane-p.result c.args.seat.now.lane c.lane-lane.result c.row.result c.args.row.now c.table.ensures.first c.lane-p.ensures c.lane-lane.ensures
-          (is_true c.lane-lane.result.out c.if-not-lane.false) (subst (λ (t : Table). RowAt t.lanes c.lane-p.result c.lane-lane.result.posted c.row.result) c.table.ensures.value c.row.ensures.value) (search rules);
+      count = ap (λ k. posted_at c.args.book.now.state k) (sym c.lane-p.ensures) ∙ ap (λ (l : LaneState). l.posted) here ∙ c.if-lane-posted.false
+          ∙ c.posted.ensures;
+      out = out_row c.args.book.now.table.lanes (plan_rows c.args.book.now.plan) c.args.book.now.state c.lane-p.result c.args.seat.now.lane
+          c.lane-lane.result c.row.result c.args.row.now c.table.ensures.first c.lane-p.ensures c.lane-lane.ensures
+          (is_true c.lane-lane.result.out c.if-not-lane.false) (subst (λ (t : Table). RowAt t.lanes c.lane-p.result c.lane-lane.result.posted c.row.result)
+          c.table.ensures.value c.row.ensures.value) (search rules);
     }

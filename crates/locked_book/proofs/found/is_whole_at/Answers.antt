@@ -30,7 +30,8 @@ returns g c _ =
       plan = c.is_of_run.ensures.plan;
       undismissed = c.is_of_run.ensures.open c.if-not-is_of_run.false;
       none_out = none_out c.args.book.now.state (λ q within. (c.loop-p.invariant q (passed g after q within)).0);
-      counts = counts_are c.args.book.now.state.lanes c.args.posted.now (wide g after ∙ sym c.requires.lanes) (λ q within. (c.loop-p.invariant q (passed g after q within)).1);
+      counts = counts_are c.args.book.now.state.lanes c.args.posted.now (wide g after ∙ sym c.requires.lanes)
+          (λ q within. (c.loop-p.invariant q (passed g after q within)).1);
     }
 
 pub is_of_run-requires : goal.is_of_run-requires

@@ -15,7 +15,8 @@ is_halted_or_told-requires-clause-open g c = (found g (goal.at.is_halted_or_told
 
 pub is_halted_or_told-requires-clause-counts : goal.is_halted_or_told-requires-clause-counts
 is_halted_or_told-requires-clause-counts g c =
-    c.requires.counts ∙ ap (λ (p : PlanContents). length p.set.tasks) (sym (found g (goal.at.is_halted_or_told-requires-clause-counts g c).After-deref-held).plan)
+    c.requires.counts ∙ ap (λ (p : PlanContents). length p.set.tasks)
+    (sym (found g (goal.at.is_halted_or_told-requires-clause-counts g c).After-deref-held).plan)
 
 pub returns-then-is_halted_or_told : goal.returns-then-is_halted_or_told
 returns-then-is_halted_or_told g c = subst (λ b. IsToldAt g.J.Job.faults c.args.work.now.plan.now b c.args.seat.now c.args.counts.now) c.deref-held.ensures

@@ -25,6 +25,7 @@ pub returns : goal.returns
 returns g c =
     let old = c.deref_mut-held.result.now in
     let at = found g (goal.at.returns g c).After-deref_mut-held in
-    let says = subst (λ p. SaysNext g.J.Job.id g.J.Job.used g.J.Job.made g.Q.PostLedger.made old c.take_next-next.new.self p c.take_next-next.result) c.lane-lane.ensures c.take_next-next.ensures.says in
+    let says = subst (λ p. SaysNext g.J.Job.id g.J.Job.used g.J.Job.made g.Q.PostLedger.made old c.take_next-next.new.self p c.take_next-next.result)
+    c.lane-lane.ensures c.take_next-next.ensures.says in
     subst (λ p. GivesRow g.J.Job.id g.J.Job.used g.J.Job.made g.Q.PostLedger.made p c.args.seat.now c.take_next-next.result) at.plan
     (gives_row g.J.Job.id g.J.Job.used g.J.Job.made g.Q.PostLedger.made c.args.seat.now old c.take_next-next.new.self c.take_next-next.result at.count says)

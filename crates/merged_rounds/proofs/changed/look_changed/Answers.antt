@@ -12,7 +12,8 @@ loop-k-preserved c =
     let w = c.requires.within c.loop-k.k (omega (arith, on)) in
     let long = c.requires.told in
     let kept = c.loop-k.auto.told in
-    told_step c.args.plan.now c.args.start c.args.source.now.tick c.args.changed.now c.args.told.now c.loop-k.told c.loop-k.k c.leaf_by.result (omega (arith, w, long, kept)) c.leaf_by.ensures c.loop-k.invariant
+    told_step c.args.plan.now c.args.start c.args.source.now.tick c.args.changed.now c.args.told.now c.loop-k.told c.loop-k.k c.leaf_by.result
+    (omega (arith, w, long, kept)) c.leaf_by.ensures c.loop-k.invariant
 
 pub returns : goal.returns
 returns c =

@@ -12,7 +12,8 @@ merge_changed-requires-clause-leaves c =
     let leaves = c.in_ok-leaves.leaves.items in
     let above = c.in_ok-merge_whole.ensures.round.above in
     subst (λ (ls : List Leaf). AreLeavesOf p end ls) (sym c.deref.ensures.value)
-    (leaves_later p c.args.source.now.tick end leaves (omega (arith, above)) (subst (λ (n : ℕ). AreLeavesOf p n leaves) c.now-start.ensures c.in_ok-leaves.ensures))
+    (leaves_later p c.args.source.now.tick end leaves (omega (arith, above)) (subst (λ (n : ℕ). AreLeavesOf p n leaves) c.now-start.ensures
+    c.in_ok-leaves.ensures))
 
 pub returns-then-start-until-clause-belongs : goal.returns-then-start-until-clause-belongs
 returns-then-start-until-clause-belongs c = c.requires.belongs
@@ -48,7 +49,8 @@ pub merge_whole-requires-clause-released : goal.merge_whole-requires-clause-rele
 merge_whole-requires-clause-released c = c.requires.released (let now = c.now-start.ensures in let on = c.if-start-until.false in omega (arith, now, on))
 
 pub merge_whole-requires-clause-early : goal.merge_whole-requires-clause-early
-merge_whole-requires-clause-early c = let now = c.now-start.ensures in let on = c.if-start-until.false in let most = c.requires.until in omega (arith, now, on, most)
+merge_whole-requires-clause-early c = let now = c.now-start.ensures in let on = c.if-start-until.false in let most = c.requires.until in
+    omega (arith, now, on, most)
 
 pub merge_whole-requires-clause-sum : goal.merge_whole-requires-clause-sum
 merge_whole-requires-clause-sum c = c.requires.sum

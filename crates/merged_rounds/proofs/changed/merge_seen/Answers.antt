@@ -18,7 +18,8 @@ add_seen-requires-clause-shown c =
     let lanes = c.args.sum.now.rows.lanes in
     let showing = c.requires.showing in
     let still : (q : ℕ) (none : Row) → q < p.tree.processors → IsNone seen (length seen) q → leaf_at p start end q none ≡ leaf_at p showing.start start q none =
-    (λ q none l no. c.go_telling-count.ensures.others q showing.start none l (λ t. no t.0 (let m = t.1 in omega (arith, m, many)) (c.first_of-seen.ensures.each t.0 t.1 ∙ t.2)) showing.released showing.round) in
+    (λ q none l no. c.go_telling-count.ensures.others q showing.start none l (λ t. no t.0 (let m = t.1 in omega (arith, m, many))
+    (c.first_of-seen.ensures.each t.0 t.1 ∙ t.2)) showing.released showing.round) in
     subst (λ (n : ℕ). AreShown lanes seen (leaves_in p n end) (rows_of_round p n end)) (sym c.now-start.ensures)
     (changed_shown p start end seen showing.start (leaves_in p start end) lanes (all_in p start end) still showing.last)
 

@@ -20,11 +20,13 @@ add_changed-requires-clause-shown c =
     let many = c.first_of-seen.ensures.long in
     let showing = c.requires.showing in
     let still : (q : ℕ) (none : Row) → q < p.tree.processors → IsNone seen (length seen) q → leaf_at p start end q none ≡ leaf_at p showing.start start q none =
-    (λ q none l no. c.go_telling-count.ensures.others q showing.start none l (λ t. no t.0 (let m = t.1 in omega (arith, m, many)) (c.first_of-seen.ensures.each t.0 t.1 ∙ t.2)) showing.released showing.round) in
+    (λ q none l no. c.go_telling-count.ensures.others q showing.start none l (λ t. no t.0 (let m = t.1 in omega (arith, m, many))
+    (c.first_of-seen.ensures.each t.0 t.1 ∙ t.2)) showing.released showing.round) in
     let told : AreTold p start end seen (length seen) c.args.told.now c.look_changed.new.told =
     subst (λ (n : ℕ). AreTold p n end seen (length seen) c.args.told.now c.look_changed.new.told) c.now-start.ensures c.look_changed.ensures in
     let all : IsAllTold p start end c.look_changed.new.told =
-    told_now p start end seen (length seen) showing.start c.args.told.now c.look_changed.new.told (c.requires.told.all showing.start showing.round) c.look_changed.auto.told told still in
+    told_now p start end seen (length seen) showing.start c.args.told.now c.look_changed.new.told (c.requires.told.all showing.start showing.round)
+    c.look_changed.auto.told told still in
     let shown = changed_shown p start end seen showing.start c.look_changed.new.told c.args.sum.now.rows.lanes all still showing.last in
     subst (λ (n : ℕ). AreShown c.args.sum.now.rows.lanes seen c.look_changed.new.told (rows_of_round p c.now-start.result n)) (sym c.now-end.ensures)
     (subst (λ (n : ℕ). AreShown c.args.sum.now.rows.lanes seen c.look_changed.new.told (rows_of_round p n end)) (sym c.now-start.ensures) shown)
@@ -42,7 +44,8 @@ returns-clause-showing c =
     let showing = c.requires.showing in
     let above = showing.round.above in
     showing_on p c.go_telling-count.new.self c.add_changed.new.sum start c.go_telling-count.ensures.belongs c.go_telling-count.ensures.round
-    (released_later p showing.start start (omega (arith, above)) showing.released) (subst (λ (n : ℕ). IsSumUpTo p n c.add_changed.new.sum) c.now-end.ensures c.in_ok-add_changed.ensures.sum)
+    (released_later p showing.start start (omega (arith, above)) showing.released) (subst (λ (n : ℕ). IsSumUpTo p n c.add_changed.new.sum) c.now-end.ensures
+    c.in_ok-add_changed.ensures.sum)
     (λ q r at. c.in_ok-add_changed.ensures.ends q r (ap (λ (rs : List Row). slice_get rs q) rows ∙ at))
 
 pub returns-clause-changed : goal.returns-clause-changed
@@ -51,7 +54,8 @@ returns-clause-changed c = record {
   processors = c.go_telling-count.ensures.processors;
   others = λ q before none l away round.
       let showing = c.requires.showing in
-      let released = subst (λ (n : ℕ). AllReleased c.args.plan.now n) (sym (same_start c.args.plan.now before showing.start c.args.source.now.tick round showing.round)) showing.released in
+      let released = subst (λ (n : ℕ). AllReleased c.args.plan.now n) (sym (same_start c.args.plan.now before showing.start c.args.source.now.tick round
+      showing.round)) showing.released in
       c.go_telling-count.ensures.others q before none l (λ t. away t.0 t.1 t.2) released round;
 }
 
@@ -64,17 +68,20 @@ returns-clause-told c =
     let many = c.first_of-seen.ensures.long in
     let showing = c.requires.showing in
     let still : (q : ℕ) (none : Row) → q < p.tree.processors → IsNone seen (length seen) q → leaf_at p start end q none ≡ leaf_at p showing.start start q none =
-    (λ q none l no. c.go_telling-count.ensures.others q showing.start none l (λ t. no t.0 (let m = t.1 in omega (arith, m, many)) (c.first_of-seen.ensures.each t.0 t.1 ∙ t.2)) showing.released showing.round) in
+    (λ q none l no. c.go_telling-count.ensures.others q showing.start none l (λ t. no t.0 (let m = t.1 in omega (arith, m, many))
+    (c.first_of-seen.ensures.each t.0 t.1 ∙ t.2)) showing.released showing.round) in
     let told : AreTold p start end seen (length seen) c.args.told.now c.look_changed.new.told =
     subst (λ (n : ℕ). AreTold p n end seen (length seen) c.args.told.now c.look_changed.new.told) c.now-start.ensures c.look_changed.ensures in
     let all : IsAllTold p start end c.look_changed.new.told =
-    told_now p start end seen (length seen) showing.start c.args.told.now c.look_changed.new.told (c.requires.told.all showing.start showing.round) c.look_changed.auto.told told still in
+    told_now p start end seen (length seen) showing.start c.args.told.now c.look_changed.new.told (c.requires.told.all showing.start showing.round)
+    c.look_changed.auto.told told still in
     the_leaves p start end c.look_changed.new.told c.go_telling-count.ensures.round all
 
 pub returns-clause-still : goal.returns-clause-still
 returns-clause-still c = λ q away.
     let many = c.first_of-seen.ensures.long in
-    c.look_changed.ensures.rest q (λ k m e. (let l : k < c.go_telling-count.result = omega (arith, m, many) in away k l (sym (c.first_of-seen.ensures.each k l) ∙ e)))
+    c.look_changed.ensures.rest q (λ k m e. (let l : k < c.go_telling-count.result = omega (arith, m, many) in
+    away k l (sym (c.first_of-seen.ensures.each k l) ∙ e)))
 
 pub go_telling-count-requires-clause-belongs : goal.go_telling-count-requires-clause-belongs
 go_telling-count-requires-clause-belongs c = c.requires.showing.belongs

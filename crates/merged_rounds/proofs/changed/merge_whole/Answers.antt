@@ -32,5 +32,6 @@ returns-clause-showing c =
     let end = c.go.new.self.tick in
     let rows : rows_of_round p c.now-start.result c.now-end.result ≡ rows_of_round p start end =
     ap (λ n. rows_of_round p n c.now-end.result) c.now-start.ensures ∙ ap (rows_of_round p start) c.now-end.ensures in
-    showing_on p c.go.new.self c.add_round.new.sum start c.go.ensures.belongs c.go.ensures.round c.requires.released (subst (λ (n : ℕ). IsSumUpTo p n c.add_round.new.sum) c.now-end.ensures c.in_ok-add_round.ensures.sum)
+    showing_on p c.go.new.self c.add_round.new.sum start c.go.ensures.belongs c.go.ensures.round c.requires.released
+    (subst (λ (n : ℕ). IsSumUpTo p n c.add_round.new.sum) c.now-end.ensures c.in_ok-add_round.ensures.sum)
     (λ q r at. c.in_ok-add_round.ensures.ends q r (ap (λ (rs : List Row). slice_get rs q) rows ∙ at))

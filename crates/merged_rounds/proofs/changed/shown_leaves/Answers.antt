@@ -14,6 +14,7 @@ loop-n-preserved c =
     record {
       long = (let now = ap (λ (xs : List Leaf). length xs) is in let more = length-append items (l ∷ []) in omega (arith, now, more, long));
       each = λ k t below late.
-          leaves_push p c.args.start c.loop-n.n items l long (λ u after. shown_on p c.args.start c.loop-n.n u l c.requires after c.leaf_shown_for.ensures) c.loop-n.invariant.each k t below late
+          leaves_push p c.args.start c.loop-n.n items l long (λ u after. shown_on p c.args.start c.loop-n.n u l c.requires after c.leaf_shown_for.ensures)
+          c.loop-n.invariant.each k t below late
           ∙ ap (λ (xs : List Leaf). get_or xs k Empty) (sym is);
     }

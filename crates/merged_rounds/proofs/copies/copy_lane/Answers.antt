@@ -7,7 +7,8 @@ pub loop-i-init : goal.loop-i-init
 loop-i-init c = copied_none c.args.rows.now.begun c.args.q c.args.window c.requires.processor
 
 pub copy_row-requires-clause-processor : goal.copy_row-requires-clause-processor
-copy_row-requires-clause-processor c = still_there c.args.rows.now.begun c.args.q c.args.window c.requires.processor c.loop-i.rows.begun c.loop-i.i c.loop-i.invariant
+copy_row-requires-clause-processor c = still_there c.args.rows.now.begun c.args.q c.args.window c.requires.processor c.loop-i.rows.begun c.loop-i.i
+    c.loop-i.invariant
 
 pub copy_row-requires-clause-row : goal.copy_row-requires-clause-row
 copy_row-requires-clause-row c =
@@ -42,4 +43,7 @@ returns c =
     let long = length-rows_up_to q rows.end (get_or rows.begun q []) in
     let off = c.loop-i-test.false in
     let count = c.count-i-end.ensures in
-    record { copied = copied_end rows.begun q c.args.window c.requires.processor c.loop-i.rows.begun c.loop-i.i (omega (arith, is, long, off, count)) c.loop-i.invariant }
+    record {
+      copied = copied_end rows.begun q c.args.window c.requires.processor c.loop-i.rows.begun c.loop-i.i (omega (arith, is, long, off, count))
+          c.loop-i.invariant;
+    }

@@ -48,7 +48,8 @@ loop-q-preserved c =
     let shows = c.in_ok-show.ensures.shown
     ∙ ap (λ n. set c.go_to.new.self.begun q (showing (get_or c.go_to.new.self.begun q []) n leaf)) c.go_to.ensures.end
     ∙ ap (λ (ls : List (List Begun)). set ls q (showing (get_or ls q []) now leaf)) c.go_to.ensures.begun in
-    are_next p now c.args.window c.args.rows.now.begun c.loop-q.rows.begun _ _ q leaf c.loop-q.invariant (omega (arith, in_tree, many)) is shows c.in_ok-copy_lane.ensures.copied
+    are_next p now c.args.window c.args.rows.now.begun c.loop-q.rows.begun _ _ q leaf c.loop-q.invariant (omega (arith, in_tree, many)) is shows
+    c.in_ok-copy_lane.ensures.copied
 
 pub returns : goal.returns
 returns c =

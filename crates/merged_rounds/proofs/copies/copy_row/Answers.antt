@@ -22,7 +22,8 @@ returns-in_ok-show c = record {
       let q = c.args.q in
       let lane = get_or rows.begun q [] in
       let r = c.row-row.result in
-      let same : b ≡ new_row r.start r.leaf = row_read rows.end rows.begun rows.lanes q c.args.i r b c.know_begun.ensures.lanes c.requires.processor c.row-row.ensures at in
+      let same : b ≡ new_row r.start r.leaf = row_read rows.end rows.begun rows.lanes q c.args.i r b c.know_begun.ensures.lanes c.requires.processor
+      c.row-row.ensures at in
       c.in_ok-show.ensures.shown
       ∙ ap (λ n. set c.go_to.new.self.begun q (showing (get_or c.go_to.new.self.begun q []) n r.leaf)) c.go_to.ensures.end
       ∙ ap (λ ls. set ls q (showing (get_or ls q []) (r.start + w.ticks) r.leaf)) c.go_to.ensures.begun
@@ -37,10 +38,12 @@ returns-else-window-row c = record {
       let q = c.args.q in
       let lane = get_or rows.begun q [] in
       let r = c.row-row.result in
-      let same : b ≡ new_row r.start r.leaf = row_read rows.end rows.begun rows.lanes q c.args.i r b c.know_begun.ensures.lanes c.requires.processor c.row-row.ensures at in
+      let same : b ≡ new_row r.start r.leaf = row_read rows.end rows.begun rows.lanes q c.args.i r b c.know_begun.ensures.lanes c.requires.processor
+      c.row-row.ensures at in
       sym (set_again rows.begun q)
       ∙ ap (set rows.begun q) (sym (elim c.else-window-row.branch [
-        | else-window-row-via-then-window-row+else-row-window v ↦ (let off = v.if-row-window.false in copy_behind w lane (new_row r.start r.leaf) (omega (arith, off)))
+        | else-window-row-via-then-window-row+else-row-window v ↦ (let off = v.if-row-window.false in copy_behind w lane (new_row r.start r.leaf)
+            (omega (arith, off)))
         | else-window-row-via-else-window-row v ↦ (let off = v.if-window-row.false in copy_before w lane (new_row r.start r.leaf) (omega (arith, off)))
       ]) ∙ ap (copy_on w lane) (sym same));
 }

@@ -9,7 +9,8 @@ use Rattle.merged_rounds.proofs.copies.merge_copies.Goals as goal
 
 pub copy_lanes-requires-clause-many : goal.copy_lanes-requires-clause-many
 copy_lanes-requires-clause-many c =
-    many_begun c.args.plan.now c.know_lawful.ensures.lawful c.args.source.now c.requires.belongs c.args.ticks c.requires.last c.requires.alike c.args.sum.now c.requires.sum c.know_begun.ensures.lanes
+    many_begun c.args.plan.now c.know_lawful.ensures.lawful c.args.source.now c.requires.belongs c.args.ticks c.requires.last c.requires.alike
+    c.args.sum.now c.requires.sum c.know_begun.ensures.lanes
 
 pub returns-clause-sum : goal.returns-clause-sum
 returns-clause-sum c =
@@ -19,7 +20,8 @@ returns-clause-sum c =
     let next : RoundSum = record { rows = c.go_to.new.self; rounds = c.in_ok-rounds.rounds } in
     let count = c.in_ok-rounds.ensures.count in
     let lanes = c.copy_lanes.new.rows.begun in
-    copies_sum p c.know_lawful.ensures.lawful source c.requires.belongs c.args.ticks c.requires.last c.requires.alike c.args.sum.now c.requires.sum c.know_begun.ensures.lanes
+    copies_sum p c.know_lawful.ensures.lawful source c.requires.belongs c.args.ticks c.requires.last c.requires.alike c.args.sum.now c.requires.sum
+    c.know_begun.ensures.lanes
     w (ap (λ n. n - c.args.ticks) c.now-now.ensures) (ap (λ n. n - c.args.ticks) c.rounds_end-stop.ensures.value) refl lanes
     (subst (λ (n : ℕ). AreCopied p n w c.args.sum.now.rows.begun lanes p.tree.processors) c.now-now.ensures c.in_ok-copy_lanes.ensures.copied)
     next count.0 count.1 (c.go_to.ensures.end ∙ c.rounds_end-stop.ensures.value)

@@ -33,7 +33,8 @@ count_up_to-requires-2-clause-before c =
     let here = c.in_ok-rest.ensures.here in
     let count = c.in_ok-rest.ensures.count in
     let reached = c.in_ok-rest.ensures.reached in
-    count ∙ sym (rounds_stay p until (min c.count_up_to.new.core.tick (c.args.turn + 1)) c.count_up_to.new.core.tick (omega (arith, low, reached)) (omega arith) (sym count ∙ here))
+    count ∙ sym (rounds_stay p until (min c.count_up_to.new.core.tick (c.args.turn + 1)) c.count_up_to.new.core.tick (omega (arith, low, reached))
+    (omega arith) (sym count ∙ here))
 
 pub overflow_sub-both : goal.overflow_sub-both
 overflow_sub-both c = let some = some_rounds c.args.plan.now c.args.turn in let is = c.in_ok-both.ensures.count in omega (arith, some, is)
@@ -60,7 +61,8 @@ count_all-requires-clause-few c =
     omega (arith, few)
 
 pub count_all-requires-clause-rest : goal.count_all-requires-clause-rest
-count_all-requires-clause-rest c = few_count c.in_ok-rest.rest c.args.plan.now.tree.processors c.know_lawful.ensures.lawful.sized.some_processors c.in_ok-rest.ensures.few
+count_all-requires-clause-rest c = few_count c.in_ok-rest.rest c.args.plan.now.tree.processors c.know_lawful.ensures.lawful.sized.some_processors
+    c.in_ok-rest.ensures.few
 
 pub nonzero_rem-last : goal.nonzero_rem-last
 nonzero_rem-last c = some_ticks c.args.plan.now c.know_lawful.ensures.lawful c.args.turn c.requires.turn

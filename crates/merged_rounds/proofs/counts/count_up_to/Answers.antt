@@ -16,7 +16,8 @@ returns-then-next_rows-gt-ROW_LIMIT-clause-fault c =
     let early : c.rounds.core.tick < stop_of p = omega (arith, now, until, on) in
     let TooLong : ℕ → Type 0 = λ m. (row_limit < rounds_of p * m) × ((c.rounds.count + 1) * c.from-processors.result ≡ (row_limit / m + 1) * m) in
     subst TooLong (c.from-processors.ensures ∙ c.processors.ensures.value ∙ ap (λ (t : Tree). t.processors) c.tree.ensures.value)
-    (too_long p c.rounds.core.tick c.rounds.count c.from-processors.result (event_before_end p c.rounds.core c.rounds.invariant.belongs early) early c.rounds.invariant.here c.rounds.invariant.few c.if-next_rows-gt-ROW_LIMIT.true)
+    (too_long p c.rounds.core.tick c.rounds.count c.from-processors.result (event_before_end p c.rounds.core c.rounds.invariant.belongs early) early
+    c.rounds.invariant.here c.rounds.invariant.few c.if-next_rows-gt-ROW_LIMIT.true)
 
 pub rounds-preserved : goal.rounds-preserved
 rounds-preserved c =

@@ -19,17 +19,20 @@ pub returns-then-start-stop-clause-sum : goal.returns-then-start-stop-clause-sum
 returns-then-start-stop-clause-sum c =
     let p = c.args.plan.now in
     let ends = c.args.lap.now.ends.items in
-    let start : c.start_of.result ≡ round_start c.args.again.from ends c.args.i = c.start_of.ensures ∙ ap (λ (es : List ℕ). round_start c.args.again.from es c.args.i) c.deref.ensures.value in
+    let start : c.start_of.result ≡ round_start c.args.again.from ends c.args.i = c.start_of.ensures ∙ ap (λ (es : List ℕ). round_start c.args.again.from es
+    c.args.i) c.deref.ensures.value in
     let stop = c.rounds_end-stop.ensures.value in
     let past = c.if-start-stop.true in
     subst (λ (n : ℕ). IsSumUpTo p n c.args.sum.now)
-    (lap_over p c.args.again.from ends c.args.lap.now.told.items c.requires.again.lap c.args.i c.args.again.ticks c.requires.round (omega (arith, start, stop, past))) c.requires.sum
+    (lap_over p c.args.again.from ends c.args.lap.now.told.items c.requires.again.lap c.args.i c.args.again.ticks c.requires.round
+    (omega (arith, start, stop, past))) c.requires.sum
 
 pub add_round-requires-clause-round : goal.add_round-requires-clause-round
 add_round-requires-clause-round c =
     let p = c.args.plan.now in
     let ends = c.args.lap.now.ends.items in
-    let start : c.start_of.result ≡ round_start c.args.again.from ends c.args.i = c.start_of.ensures ∙ ap (λ (es : List ℕ). round_start c.args.again.from es c.args.i) c.deref.ensures.value in
+    let start : c.start_of.result ≡ round_start c.args.again.from ends c.args.i = c.start_of.ensures ∙ ap (λ (es : List ℕ). round_start c.args.again.from es
+    c.args.i) c.deref.ensures.value in
     let stop = c.rounds_end-stop.ensures.value in
     let on = c.if-start-stop.false in
     let early : round_start c.args.again.from ends c.args.i + c.args.again.ticks < stop_of p = omega (arith, start, stop, on) in
@@ -38,20 +41,23 @@ add_round-requires-clause-round c =
     ∙ ap (λ (n : ℕ). min (get_or ends c.args.i 0 + c.args.again.ticks) n) stop in
     subst (λ (n : ℕ). IsRoundUpTo p (n + c.args.again.ticks) c.end_of-end.result) (sym start)
     (subst (λ (n : ℕ). IsRoundUpTo p (round_start c.args.again.from ends c.args.i + c.args.again.ticks) n) (sym end)
-    (lap_round p c.rounds_end-stop.ensures.lawful c.args.again.from c.args.again.ticks c.requires.again.again ends c.args.lap.now.told.items c.requires.again.lap c.args.i c.requires.round early))
+    (lap_round p c.rounds_end-stop.ensures.lawful c.args.again.from c.args.again.ticks c.requires.again.again ends c.args.lap.now.told.items
+    c.requires.again.lap c.args.i c.requires.round early))
 
 pub add_round-requires-clause-told : goal.add_round-requires-clause-told
 add_round-requires-clause-told c =
     let p = c.args.plan.now in
     let ends = c.args.lap.now.ends.items in
     let all = c.args.lap.now.told.items in
-    let start : c.start_of.result ≡ round_start c.args.again.from ends c.args.i = c.start_of.ensures ∙ ap (λ (es : List ℕ). round_start c.args.again.from es c.args.i) c.deref.ensures.value in
+    let start : c.start_of.result ≡ round_start c.args.again.from ends c.args.i = c.start_of.ensures ∙ ap (λ (es : List ℕ). round_start c.args.again.from es
+    c.args.i) c.deref.ensures.value in
     let stop = c.rounds_end-stop.ensures.value in
     let on = c.if-start-stop.false in
     let early : round_start c.args.again.from ends c.args.i + c.args.again.ticks < stop_of p = omega (arith, start, stop, on) in
     let many : c.processors.result ≡ p.tree.processors = c.processors.ensures.value ∙ ap (λ (t : Tree). t.processors) c.tree.ensures.value in
     let told : IsAllTold p (round_start c.args.again.from ends c.args.i + c.args.again.ticks) c.end_of-end.result c.told_in-told.result.now =
-    lap_told p c.rounds_end-stop.ensures.lawful c.args.again.from c.args.again.ticks c.requires.again.again ends all c.requires.again.lap c.args.i c.requires.round early
+    lap_told p c.rounds_end-stop.ensures.lawful c.args.again.from c.args.again.ticks c.requires.again.again ends all c.requires.again.lap c.args.i
+    c.requires.round early
     c.end_of-end.result c.told_in-told.result.now (c.told_in-told.ensures.long ∙ many)
     (λ q l. c.told_in-told.ensures.each q (omega (arith, l, many))
     ∙ ap (λ (ts : List (Option Leaf)). get_or ts (c.args.i * c.processors.result + q) None) c.deref-3.ensures.value
@@ -66,7 +72,8 @@ pub overflow_add-start : goal.overflow_add-start
 overflow_add-start c =
     let p = c.args.plan.now in
     let ends = c.args.lap.now.ends.items in
-    let start : c.start_of.result ≡ round_start c.args.again.from ends c.args.i = c.start_of.ensures ∙ ap (λ (es : List ℕ). round_start c.args.again.from es c.args.i) c.deref.ensures.value in
+    let start : c.start_of.result ≡ round_start c.args.again.from ends c.args.i = c.start_of.ensures ∙ ap (λ (es : List ℕ). round_start c.args.again.from es
+    c.args.i) c.deref.ensures.value in
     let round = c.requires.again.lap.round c.args.i c.requires.round in
     let above = round.above in
     let below = round.below in
@@ -98,10 +105,16 @@ pub add_round-requires-clause-sum : goal.add_round-requires-clause-sum
 add_round-requires-clause-sum c =
     let p = c.args.plan.now in
     let ends = c.args.lap.now.ends.items in
-    let start : c.start_of.result ≡ round_start c.args.again.from ends c.args.i = c.start_of.ensures ∙ ap (λ (es : List ℕ). round_start c.args.again.from es c.args.i) c.deref.ensures.value in
+    let start : c.start_of.result ≡ round_start c.args.again.from ends c.args.i = c.start_of.ensures ∙ ap (λ (es : List ℕ). round_start c.args.again.from es
+    c.args.i) c.deref.ensures.value in
     let stop = c.rounds_end-stop.ensures.value in
     let on = c.if-start-stop.false in
-    let e : min (round_start c.args.again.from ends c.args.i + c.args.again.ticks) (stop_of p) ≡ c.start_of.result + c.args.again.ticks = omega (arith, start, stop, on) in
+    let e : min (round_start c.args.again.from ends c.args.i + c.args.again.ticks) (stop_of p) ≡ c.start_of.result + c.args.again.ticks = omega (
+      arith,
+      start,
+      stop,
+      on,
+    ) in
     subst (λ (n : ℕ). IsSumUpTo p n c.args.sum.now) e c.requires.sum
 
 pub returns-clause-sum : goal.returns-clause-sum

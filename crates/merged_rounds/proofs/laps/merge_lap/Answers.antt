@@ -10,7 +10,8 @@ rounds-init c = record {
   belongs = c.requires.belongs;
   sum = c.requires.sum;
   lap = subst (λ (es : List ℕ). IsLap c.args.plan.now c.args.source.now.tick es c.args.lap.now.told.items) (sym c.requires.ends)
-      (subst (λ (ts : List (Option Leaf)). IsLap c.args.plan.now c.args.source.now.tick [] ts) (sym c.requires.none) (no_lap c.args.plan.now c.args.source.now.tick));
+      (subst (λ (ts : List (Option Leaf)). IsLap c.args.plan.now c.args.source.now.tick [] ts) (sym c.requires.none) (no_lap c.args.plan.now
+      c.args.source.now.tick));
   end = ap (λ (es : List ℕ). round_start c.args.source.now.tick es (length es)) c.requires.ends;
 }
 

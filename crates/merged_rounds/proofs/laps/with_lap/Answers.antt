@@ -10,7 +10,8 @@ returns-clause-sum c =
     let off = c.loop-i-test.false in
     let within = c.loop-i.auto.i-end in
     let e : c.loop-i.i ≡ length ends = omega (arith, off, within) in
-    subst (λ (n : ℕ). IsSumUpTo c.args.plan.now (min (round_start c.args.again.from ends n + c.args.again.ticks) (stop_of c.args.plan.now)) c.loop-i.sum) e c.loop-i.invariant
+    subst (λ (n : ℕ). IsSumUpTo c.args.plan.now (min (round_start c.args.again.from ends n + c.args.again.ticks) (stop_of c.args.plan.now)) c.loop-i.sum) e
+    c.loop-i.invariant
 
 pub add_lap_round-requires-clause-again : goal.add_lap_round-requires-clause-again
 add_lap_round-requires-clause-again c = c.requires.again

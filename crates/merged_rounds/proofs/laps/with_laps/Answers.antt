@@ -31,7 +31,11 @@ laps-preserved c =
     }
 
 pub with_lap-requires-clause-again : goal.with_lap-requires-clause-again
-with_lap-requires-clause-again c = record { again = c.laps.invariant.again (let stop = c.rounds_end-stop.ensures.value in let on = c.laps-test.true in omega (arith, stop, on)); lap = c.requires.again.lap }
+with_lap-requires-clause-again c =
+    record {
+      again = c.laps.invariant.again (let stop = c.rounds_end-stop.ensures.value in let on = c.laps-test.true in omega (arith, stop, on));
+      lap = c.requires.again.lap;
+    }
 
 pub with_lap-requires-clause-early : goal.with_lap-requires-clause-early
 with_lap-requires-clause-early c = let stop = c.rounds_end-stop.ensures.value in let on = c.laps-test.true in omega (arith, stop, on)

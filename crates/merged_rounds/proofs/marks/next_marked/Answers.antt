@@ -11,6 +11,7 @@ words-preserved c =
       omega (arith, up, later),
       λ j from low. elim (cases_lt j c.words.k) [
         | inl before ↦ c.words.invariant.1 j from before
-        | inr behind ↦ unmarked_rest c.args.words.now c.words.k c.rest_at-rest.result c.behind_word-k.result c.rest_at-rest.ensures.value (omega (arith, none)) c.behind_word-k.ensures.same j behind low
+        | inr behind ↦ unmarked_rest c.args.words.now c.words.k c.rest_at-rest.result c.behind_word-k.result c.rest_at-rest.ensures.value
+            (omega (arith, none)) c.behind_word-k.ensures.same j behind low
       ],
     )

@@ -14,7 +14,8 @@ merge_to_end-requires-clause-merging c =
     record {
       belongs = c.requires.belongs;
       sum = subst (λ (n : ℕ). IsSumUpTo c.args.plan.now n first) (sym c.requires.first) c.requires.sum;
-      kept = λ q l. none_kept c.args.plan.now source.tick q (lane_of first.rows.lanes q) (get_or c.args.kept.now q None) (ap (λ (xs : List (Option NodeId)). get_or xs q None) c.requires.kept ∙ get_or-replicate c.args.plan.now.tree.processors q None None l);
+      kept = λ q l. none_kept c.args.plan.now source.tick q (lane_of first.rows.lanes q) (get_or c.args.kept.now q None)
+          (ap (λ (xs : List (Option NodeId)). get_or xs q None) c.requires.kept ∙ get_or-replicate c.args.plan.now.tree.processors q None None l);
     }
 
 pub merge_first-requires-clause-belongs : goal.merge_first-requires-clause-belongs

@@ -28,7 +28,8 @@ with_laps-requires-clause-again c =
     let until = c.if-now-until.true in
     let end : c.merge_lap.new.source.tick ≡ c.now-from.result + c.args.ticks = omega (arith, now, until) in
     let early = c.requires.within in
-    lap_again p c.know_lawful.ensures.lawful c.requires.apart c.now-from.result c.args.ticks tick c.args.before.now.tick c.merge_lap.new.source.tick c.merge_lap.new.lap
+    lap_again p c.know_lawful.ensures.lawful c.requires.apart c.now-from.result c.args.ticks tick c.args.before.now.tick c.merge_lap.new.source.tick
+    c.merge_lap.new.lap
     c.requires.turns (rw from c.requires.released) (omega (arith, from, early)) c.requires.some
     from c.requires.here end (c.in_ok-again.ensures c.if-again.true) c.in_ok-merge_lap.ensures.lap c.in_ok-merge_lap.ensures.end
 

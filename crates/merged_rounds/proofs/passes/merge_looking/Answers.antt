@@ -41,8 +41,10 @@ add_round-requires-clause-told c =
     let p = c.args.plan.now in
     let start = c.rounds.core.tick in
     let end = c.go.new.self.tick in
-    let looked : (q : ℕ) → q < p.tree.processors → IsLooked p start end q (get_or c.rounds.kept q None) (get_or c.look_each.new.kept q None) (get_or c.look_each.new.told q None) =
-    (λ q l. subst (λ (n : ℕ). IsLooked p n end q (get_or c.rounds.kept q None) (get_or c.look_each.new.kept q None) (get_or c.look_each.new.told q None)) c.now-start.ensures.value (c.look_each.ensures q l)) in
+    let looked : (q : ℕ) → q < p.tree.processors → IsLooked p start end q (get_or c.rounds.kept q None) (get_or c.look_each.new.kept q None)
+    (get_or c.look_each.new.told q None) =
+    (λ q l. subst (λ (n : ℕ). IsLooked p n end q (get_or c.rounds.kept q None) (get_or c.look_each.new.kept q None) (get_or c.look_each.new.told q None))
+    c.now-start.ensures.value (c.look_each.ensures q l)) in
     let long : length c.look_each.new.told ≡ p.tree.processors = (let a = c.requires.told in let b = c.rounds.auto.told in omega (arith, a, b)) in
     let told = are_told p start end c.rounds.sum.rows.lanes c.rounds.kept c.look_each.new.kept c.look_each.new.told c.rounds.invariant.kept looked long in
     subst (λ (n : ℕ). AreChangesTold c.rounds.sum.rows.lanes c.look_each.new.told (rows_of_round p c.now-start.result n)) (sym c.now-end.ensures.value)
@@ -54,14 +56,17 @@ rounds-preserved c =
     let start = c.rounds.core.tick in
     let end = c.go.new.self.tick in
     let round = c.go.ensures.round in
-    let looked : (q : ℕ) → q < p.tree.processors → IsLooked p start end q (get_or c.rounds.kept q None) (get_or c.look_each.new.kept q None) (get_or c.look_each.new.told q None) =
-    (λ q l. subst (λ (n : ℕ). IsLooked p n end q (get_or c.rounds.kept q None) (get_or c.look_each.new.kept q None) (get_or c.look_each.new.told q None)) c.now-start.ensures.value (c.look_each.ensures q l)) in
+    let looked : (q : ℕ) → q < p.tree.processors → IsLooked p start end q (get_or c.rounds.kept q None) (get_or c.look_each.new.kept q None)
+    (get_or c.look_each.new.told q None) =
+    (λ q l. subst (λ (n : ℕ). IsLooked p n end q (get_or c.rounds.kept q None) (get_or c.look_each.new.kept q None) (get_or c.look_each.new.told q None))
+    c.now-start.ensures.value (c.look_each.ensures q l)) in
     let rows : rows_of_round p c.now-start.result c.now-end.result ≡ rows_of_round p start end =
     ap (λ n. rows_of_round p n c.now-end.result) c.now-start.ensures.value ∙ ap (rows_of_round p start) c.now-end.ensures.value in
     record {
       belongs = c.go.ensures.belongs;
       sum = subst (λ (n : ℕ). IsSumUpTo p n c.add_round.new.sum) c.now-end.ensures.value c.in_ok-add_round.ensures.sum;
-      kept = kept_on p start end c.rounds.sum.rows.lanes c.rounds.kept c.look_each.new.kept c.look_each.new.told c.rounds.invariant.kept looked c.add_round.new.sum.rows.lanes
+      kept = kept_on p start end c.rounds.sum.rows.lanes c.rounds.kept c.look_each.new.kept c.look_each.new.told c.rounds.invariant.kept looked
+          c.add_round.new.sum.rows.lanes
           (let above = round.above in omega (arith, above))
           (λ q r at. c.in_ok-add_round.ensures.ends q r (ap (λ (rs : List Row). slice_get rs q) rows ∙ at));
     }

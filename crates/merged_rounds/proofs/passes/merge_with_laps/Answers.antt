@@ -10,7 +10,8 @@ pub merge_until_again-requires-clause-merging : goal.merge_until_again-requires-
 merge_until_again-requires-clause-merging c = record {
   belongs = c.requires.belongs;
   sum = c.requires.sum;
-  kept = λ q l. none_kept c.args.plan.now c.args.source.now.tick q (lane_of c.args.sum.now.rows.lanes q) (get_or c.args.kept.now q None) (ap (λ (xs : List (Option NodeId)). get_or xs q None) c.requires.kept ∙ get_or-replicate c.args.plan.now.tree.processors q None None l);
+  kept = λ q l. none_kept c.args.plan.now c.args.source.now.tick q (lane_of c.args.sum.now.rows.lanes q) (get_or c.args.kept.now q None)
+      (ap (λ (xs : List (Option NodeId)). get_or xs q None) c.requires.kept ∙ get_or-replicate c.args.plan.now.tree.processors q None None l);
 }
 
 pub merge_until_again-requires-clause-told : goal.merge_until_again-requires-clause-told

@@ -7,7 +7,8 @@ use Rattle.merged_rounds.proofs.sums.add_seen.Goals as goal
 
 pub show_seen-requires-clause-many : goal.show_seen-requires-clause-many
 show_seen-requires-clause-many c =
-    c.know_begun.ensures.many ∙ lanes_whole c.args.plan.now c.in_ok-rounds.ensures.lawful c.args.start c.args.source.now.tick c.requires.round c.args.sum.now c.requires.sum
+    c.know_begun.ensures.many ∙ lanes_whole c.args.plan.now c.in_ok-rounds.ensures.lawful c.args.start c.args.source.now.tick c.requires.round
+    c.args.sum.now c.requires.sum
 
 pub returns-clause-sum : goal.returns-clause-sum
 returns-clause-sum c =
@@ -19,8 +20,10 @@ returns-clause-sum c =
     let changed = c.args.changed.now in
     let next : RoundSum = record { rows = c.go_to.new.self; rounds = c.in_ok-rounds.rounds } in
     let to = c.go_to.ensures.end ∙ c.now-end.ensures in
-    let going = subst (λ (ls : List (List Begun)). AreGoingOn sum.rows.begun sum.rows.end changed (leaves_in p start end) ls (length changed)) (sym c.go_to.ensures.begun) c.in_ok-show_seen.ensures.going in
-    let lanes = seen_on p h start end c.requires.round sum c.requires.sum next changed c.know_begun.ensures.many c.know_begun.ensures.lanes (c.know_begun-2.ensures.lanes ∙ ap (λ n. lanes_up_to 0 n next.rows.begun) to) c.requires.shown going in
+    let going = subst (λ (ls : List (List Begun)). AreGoingOn sum.rows.begun sum.rows.end changed (leaves_in p start end) ls (length changed))
+    (sym c.go_to.ensures.begun) c.in_ok-show_seen.ensures.going in
+    let lanes = seen_on p h start end c.requires.round sum c.requires.sum next changed c.know_begun.ensures.many c.know_begun.ensures.lanes
+    (c.know_begun-2.ensures.lanes ∙ ap (λ n. lanes_up_to 0 n next.rows.begun) to) c.requires.shown going in
     sum_on p h start end c.requires.round sum c.requires.sum next lanes c.in_ok-rounds.ensures.count c.in_ok-rounds.ensures.few to
 
 pub returns-clause-ends : goal.returns-clause-ends
@@ -33,6 +36,8 @@ returns-clause-ends c =
     let changed = c.args.changed.now in
     let next : RoundSum = record { rows = c.go_to.new.self; rounds = c.in_ok-rounds.rounds } in
     let to = c.go_to.ensures.end ∙ c.now-end.ensures in
-    let going = subst (λ (ls : List (List Begun)). AreGoingOn sum.rows.begun sum.rows.end changed (leaves_in p start end) ls (length changed)) (sym c.go_to.ensures.begun) c.in_ok-show_seen.ensures.going in
-    let lanes = seen_on p h start end c.requires.round sum c.requires.sum next changed c.know_begun.ensures.many c.know_begun.ensures.lanes (c.know_begun-2.ensures.lanes ∙ ap (λ n. lanes_up_to 0 n next.rows.begun) to) c.requires.shown going in
+    let going = subst (λ (ls : List (List Begun)). AreGoingOn sum.rows.begun sum.rows.end changed (leaves_in p start end) ls (length changed))
+    (sym c.go_to.ensures.begun) c.in_ok-show_seen.ensures.going in
+    let lanes = seen_on p h start end c.requires.round sum c.requires.sum next changed c.know_begun.ensures.many c.know_begun.ensures.lanes
+    (c.know_begun-2.ensures.lanes ∙ ap (λ n. lanes_up_to 0 n next.rows.begun) to) c.requires.shown going in
     λ q r at. ends_on p h start end c.requires.round sum c.requires.sum next lanes q r at

@@ -27,11 +27,15 @@ loop-k-preserved c =
     let within = c.requires.within c.loop-k.k (omega (arith, on)) in
     let is = c.in_ok-show.ensures.shown ∙ ap (λ (n : ℕ). set lanes q (showing (get_or lanes q []) n c.leaf_by.result)) c.loop-k.invariant.end in
     record {
-      going = seen_step c.args.plan.now c.args.start c.args.source.now.tick c.args.rows.now.begun lanes _ c.args.rows.now.end c.args.changed.now c.loop-k.k q c.leaf_by.result refl within c.requires.many c.leaf_by.ensures is c.loop-k.invariant.going;
+      going = seen_step c.args.plan.now c.args.start c.args.source.now.tick c.args.rows.now.begun lanes _ c.args.rows.now.end c.args.changed.now c.loop-k.k
+          q c.leaf_by.result refl within c.requires.many c.leaf_by.ensures is c.loop-k.invariant.going;
       end = c.in_ok-show.ensures.end ∙ c.loop-k.invariant.end;
     }
 
 pub returns : goal.returns
 returns c =
     let all : c.loop-k.k ≡ length c.args.changed.now = omega arith in
-    record { going = subst (λ (n : ℕ). AreGoingOn c.args.rows.now.begun c.args.rows.now.end c.args.changed.now (leaves_in c.args.plan.now c.args.start c.args.source.now.tick) c.loop-k.rows.begun n) all c.loop-k.invariant.going }
+    record {
+      going = subst (λ (n : ℕ). AreGoingOn c.args.rows.now.begun c.args.rows.now.end c.args.changed.now (leaves_in c.args.plan.now c.args.start
+          c.args.source.now.tick) c.loop-k.rows.begun n) all c.loop-k.invariant.going;
+    }

@@ -48,10 +48,13 @@ pub keep_round-requires-clause-can : goal.keep_round-requires-clause-can
 keep_round-requires-clause-can c = c.requires.can
 
 pub keep_round-requires-clause-round : goal.keep_round-requires-clause-round
-keep_round-requires-clause-round c = subst (λ (n : ℕ). IsRoundUpTo c.args.plan.now c.now-start.result n) (sym c.now-end.ensures) (subst (λ (n : ℕ). IsRoundUpTo c.args.plan.now n c.merge_whole.new.source.tick) (sym c.now-start.ensures) c.in_ok-merge_whole.ensures.round)
+keep_round-requires-clause-round c = subst (λ (n : ℕ). IsRoundUpTo c.args.plan.now c.now-start.result n) (sym c.now-end.ensures)
+    (subst (λ (n : ℕ). IsRoundUpTo c.args.plan.now n c.merge_whole.new.source.tick) (sym c.now-start.ensures) c.in_ok-merge_whole.ensures.round)
 
 pub keep_round-requires-clause-leaves : goal.keep_round-requires-clause-leaves
-keep_round-requires-clause-leaves c = subst (λ (n : ℕ). IsAllTold c.args.plan.now c.now-start.result n c.merge_whole.new.told) (sym c.now-end.ensures) (subst (λ (n : ℕ). IsAllTold c.args.plan.now n c.merge_whole.new.source.tick c.merge_whole.new.told) (sym c.now-start.ensures) c.in_ok-merge_whole.ensures.told)
+keep_round-requires-clause-leaves c = subst (λ (n : ℕ). IsAllTold c.args.plan.now c.now-start.result n c.merge_whole.new.told) (sym c.now-end.ensures)
+    (subst (λ (n : ℕ). IsAllTold c.args.plan.now n c.merge_whole.new.source.tick c.merge_whole.new.told) (sym c.now-start.ensures)
+    c.in_ok-merge_whole.ensures.told)
 
 pub keep_round-requires-clause-turn : goal.keep_round-requires-clause-turn
 keep_round-requires-clause-turn c = c.in_ok-turn.ensures.turn

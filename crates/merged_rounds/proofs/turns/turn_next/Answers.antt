@@ -22,19 +22,22 @@ mark_changed-requires-clause-within c = λ j l.
 pub mark_changed-requires-clause-long : goal.mark_changed-requires-clause-long
 mark_changed-requires-clause-long c =
     let p = c.args.plan.now in
-    c.requires.holds.long ∙ sym (ap (λ (w : Placing). length w.onto) c.places.ensures ∙ length-places (set_boundary p.set.tasks) p.tree c.merge_telling.new.source.tick)
+    c.requires.holds.long ∙ sym (ap (λ (w : Placing). length w.onto) c.places.ensures ∙ length-places (set_boundary p.set.tasks) p.tree
+    c.merge_telling.new.source.tick)
 
 pub mark_changed-requires-clause-before : goal.mark_changed-requires-clause-before
 mark_changed-requires-clause-before c = λ q k at.
     let going = c.requires.going in
-    let w = packs_listed c.args.plan.now c.know_lawful.ensures.lawful going.showing.start c.args.source.now.tick going.showing.round c.args.holds.now c.requires.holds q k at in
+    let w = packs_listed c.args.plan.now c.know_lawful.ensures.lawful going.showing.start c.args.source.now.tick going.showing.round c.args.holds.now
+    c.requires.holds q k at in
     let long = c.forget.ensures in
     let marks = c.requires.marks in
     omega (arith, w, long, marks)
 
 pub mark_changed-requires-clause-now : goal.mark_changed-requires-clause-now
 mark_changed-requires-clause-now c = λ q k at.
-    let w = packs_held c.args.plan.now c.know_lawful.ensures.lawful c.args.source.now.tick c.merge_telling.new.source.tick c.in_ok-count.ensures.round q k (ap (λ (w : Placing). get_or w.onto q None) (sym c.places.ensures) ∙ at) in
+    let w = packs_held c.args.plan.now c.know_lawful.ensures.lawful c.args.source.now.tick c.merge_telling.new.source.tick c.in_ok-count.ensures.round q k
+    (ap (λ (w : Placing). get_or w.onto q None) (sym c.places.ensures) ∙ at) in
     let long = c.forget.ensures in
     let marks = c.requires.marks in
     omega (arith, w, long, marks)
@@ -60,7 +63,8 @@ keep_round-requires-clause-still c = λ some.
     let each : (j : ℕ) → j < length seen → get_or c.mark_changed.new.holds (get_or seen j 0) None ≡ get_or (places_of p end).onto (get_or seen j 0) None =
     (λ j l. m.each j l ∙ ap (λ (os : List (Option ℕ)). get_or os (get_or seen j 0) None) onto) in
     let now : AreHolding p end c.mark_changed.new.holds =
-    holds_now p start end seen c.merge_telling.new.changed c.in_ok-count.count c.first_of-seen.ensures.long c.first_of-seen.ensures.each c.args.holds.now c.mark_changed.new.holds c.requires.holds e.placed each m.rest c.mark_changed.auto.holds in
+    holds_now p start end seen c.merge_telling.new.changed c.in_ok-count.count c.first_of-seen.ensures.long c.first_of-seen.ensures.each c.args.holds.now
+    c.mark_changed.new.holds c.requires.holds e.placed each m.rest c.mark_changed.auto.holds in
     let many = c.first_of-seen.ensures.long in
     let not_seen : (q : ℕ) → IsNone seen (length seen) q → get_or c.merge_telling.new.told q None ≡ get_or c.args.told.now q None =
     (λ q away. e.still q (λ k l at. away k (omega (arith, l, many)) (c.first_of-seen.ensures.each k l ∙ at))) in
@@ -69,7 +73,8 @@ keep_round-requires-clause-still c = λ some.
     let gone = going.showing.round in
     let turn = c.args.turn.now in
     subst (λ (w : Placing). AreStill w.onto c.merge_telling.new.told turn.last.items c.mark_changed.new.marks 0) (sym c.places-2.ensures)
-    (still_now p c.know_lawful.ensures.lawful c.requires.can before start end gone c.args.told.now c.merge_telling.new.told turn.last.items (going.leaves.all before gone) (last_on p turn before start going.turn going.end gone some) going.turn.long
+    (still_now p c.know_lawful.ensures.lawful c.requires.can before start end gone c.args.told.now c.merge_telling.new.told turn.last.items
+    (going.leaves.all before gone) (last_on p turn before start going.turn going.end gone some) going.turn.long
     c.args.holds.now c.mark_changed.new.holds c.requires.holds now c.mark_changed.new.marks seen m.rest m.held
     (λ j k l at. m.marked j k l (ap (λ (os : List (Option ℕ)). get_or os (get_or seen j 0) None) onto ∙ at)) not_seen)
 
@@ -85,7 +90,8 @@ returns-clause-holds c =
     let each : (j : ℕ) → j < length seen → get_or c.mark_changed.new.holds (get_or seen j 0) None ≡ get_or (places_of p end).onto (get_or seen j 0) None =
     (λ j l. m.each j l ∙ ap (λ (os : List (Option ℕ)). get_or os (get_or seen j 0) None) onto) in
     let now : AreHolding p end c.mark_changed.new.holds =
-    holds_now p start end seen c.merge_telling.new.changed c.in_ok-count.count c.first_of-seen.ensures.long c.first_of-seen.ensures.each c.args.holds.now c.mark_changed.new.holds c.requires.holds e.placed each m.rest c.mark_changed.auto.holds in
+    holds_now p start end seen c.merge_telling.new.changed c.in_ok-count.count c.first_of-seen.ensures.long c.first_of-seen.ensures.each c.args.holds.now
+    c.mark_changed.new.holds c.requires.holds e.placed each m.rest c.mark_changed.auto.holds in
     now
 
 pub returns-clause-going : goal.returns-clause-going

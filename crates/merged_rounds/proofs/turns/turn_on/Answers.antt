@@ -23,7 +23,8 @@ turn_next-requires-clause-marks c = c.rounds.invariant.marks
 pub rounds-preserved : goal.rounds-preserved
 rounds-preserved c = record {
   going = c.in_ok-turn_next.ensures.going;
-  leaves = (let above = c.in_ok-turn_next.ensures.later.above in leaves_later c.args.plan.now c.rounds.source.tick c.turn_next.new.source.tick c.args.leaves.now (omega (arith, above)) c.rounds.invariant.leaves);
+  leaves = (let above = c.in_ok-turn_next.ensures.later.above in leaves_later c.args.plan.now c.rounds.source.tick c.turn_next.new.source.tick
+      c.args.leaves.now (omega (arith, above)) c.rounds.invariant.leaves);
   holds = c.in_ok-turn_next.ensures.holds;
   marks = c.in_ok-turn_next.ensures.long;
 }

@@ -23,5 +23,6 @@ returns g c =
           ∙ ap (λ n. Some (row_on p start n leaf)) (sym (w.end-is ∙ w.start-end.ensures))
       | else-i-last w ↦
           let many : length (map begun rows) ≡ length rows = length-map rows begun in
-          last_row p c.args.end i (map begun rows) start leaf (omega (arith, many, c.requires, w.if-i-last.false)) here ∙ ap (λ n. Some (row_on p start n leaf)) (sym w.end-is)
+          last_row p c.args.end i (map begun rows) start leaf (omega (arith, many, c.requires, w.if-i-last.false)) here
+          ∙ ap (λ n. Some (row_on p start n leaf)) (sym w.end-is)
     ]

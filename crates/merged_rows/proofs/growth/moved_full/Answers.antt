@@ -10,7 +10,8 @@ loop-row-init g c = ap (map begun_full) c.in_ok-moved.ensures.items
 pub loop-row-preserved : goal.loop-row-preserved
 loop-row-preserved g c =
     moved_more g.F.RowForm.begun begun_full c.args.rows.now c.loop-row.moved.items c.push_row.new.rows.items c.loop-row.row-index c.row-item.result
-    (record { start = c.start.result; leaf = c.leaf.result }) c.start.result c.leaf.result c.loop-row-test.true c.row-item.is c.start.ensures c.leaf.ensures refl
+    (record { start = c.start.result; leaf = c.leaf.result }) c.start.result c.leaf.result c.loop-row-test.true c.row-item.is c.start.ensures c.leaf.ensures
+    refl
     c.in_ok-push_row.ensures.pushed c.loop-row.invariant
 
 pub returns : goal.returns

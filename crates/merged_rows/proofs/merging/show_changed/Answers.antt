@@ -12,7 +12,8 @@ loop-k-preserved c =
     let on = c.loop-k-test.true in
     let within = c.requires.within c.loop-k.k (omega (arith, on)) in
     let whole = c.requires.whole in
-    on_step c.args.lanes.now c.args.start c.args.changed.now c.args.told.now c.loop-k.lanes _ c.loop-k.k p _ _ refl within whole (ap (set c.loop-k.lanes p) c.in_ok-go_on.ensures.shown) c.loop-k.invariant
+    on_step c.args.lanes.now c.args.start c.args.changed.now c.args.told.now c.loop-k.lanes _ c.loop-k.k p _ _ refl within whole (ap (set c.loop-k.lanes p)
+    c.in_ok-go_on.ensures.shown) c.loop-k.invariant
 
 pub returns : goal.returns
 returns c =

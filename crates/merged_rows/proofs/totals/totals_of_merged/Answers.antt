@@ -13,5 +13,6 @@ returns c =
     let count : length c.deref_mut.result.now ≡ c.args.tasks = ap length zeros ∙ length-replicate c.args.tasks 0 in
     let long : length c.add_lanes.new.sums ≡ c.args.tasks = c.add_lanes.auto.sums ∙ count in
     let room : c.in_ok-sums.sums.len ≡ c.args.tasks = sym c.deref_mut.ensures.len ∙ count in
-    written_back c.add_lanes.new.sums c.in_ok-sums.sums.items c.in_ok-sums.sums.len (long ∙ sym room) (ap length (sym c.deref_mut.ensures.value) ∙ c.deref_mut.ensures.len)
+    written_back c.add_lanes.new.sums c.in_ok-sums.sums.items c.in_ok-sums.sums.len (long ∙ sym room) (ap length (sym c.deref_mut.ensures.value)
+    ∙ c.deref_mut.ensures.len)
     ∙ sums_are c.args.tasks c.args.rows.now.lanes c.add_lanes.new.sums long adds

@@ -11,14 +11,16 @@ returns-in-Ok-clause-some c =
 
 pub overflow_mul-count : goal.overflow_mul-count
 overflow_mul-count c =
-    let width = c.from-processors.ensures ∙ c.processors.ensures.value ∙ ap (λ (s : SetContents). s.processors) c.set.ensures.value ∙ sym c.set.ensures.lawful.tree.processors in
+    let width = c.from-processors.ensures ∙ c.processors.ensures.value ∙ ap (λ (s : SetContents). s.processors) c.set.ensures.value
+    ∙ sym c.set.ensures.lawful.tree.processors in
     let times = ap (λ w. c.in-Ok.count * w) width in
     let most = c.in-Ok.ensures.count.1 in
     omega (arith, times, most)
 
 pub overflow_add-rows : goal.overflow_add-rows
 overflow_add-rows c =
-    let width = c.from-processors.ensures ∙ c.processors.ensures.value ∙ ap (λ (s : SetContents). s.processors) c.set.ensures.value ∙ sym c.set.ensures.lawful.tree.processors in
+    let width = c.from-processors.ensures ∙ c.processors.ensures.value ∙ ap (λ (s : SetContents). s.processors) c.set.ensures.value
+    ∙ sym c.set.ensures.lawful.tree.processors in
     let times = ap (λ w. c.in-Ok.count * w) width in
     let most = c.in-Ok.ensures.count.1 in
     omega (arith, times, most, c.requires)

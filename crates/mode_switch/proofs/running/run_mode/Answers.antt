@@ -10,7 +10,8 @@ begin_anew-requires g c = λ t within.
 
 pub execute_on-requires-clause-jobs : goal.execute_on-requires-clause-jobs
 execute_on-requires-clause-jobs g c κs within =
-    fresh_at _ _ _ _ c.args.plan.now.set.tasks c.args.jobs.now.places c.begin_anew.new.jobs.places (rw c.set.ensures.value at c.begin_anew.ensures) c.requires.jobs
+    fresh_at _ _ _ _ c.args.plan.now.set.tasks c.args.jobs.now.places c.begin_anew.new.jobs.places (rw c.set.ensures.value at c.begin_anew.ensures)
+    c.requires.jobs
 
 pub returns : goal.returns
 returns g c = record {

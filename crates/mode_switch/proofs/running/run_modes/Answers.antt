@@ -2,7 +2,8 @@ use Rattle.std.proofs.Common.{◌≤◌, ◌<◌, [], ◌∷◌, Err, length, le
 use Rattle.sched_base.specs.Tables.{row_limit}
 use Rattle.run_tree.specs.Plans.{PlanContents}
 use Rattle.mode_join.proofs.ModeLemmas.{few_modes}
-use Rattle.mode_switch.proofs.RunLemmas.{all_get, next_mode, modes_back, filled_after, own_after, stopped_in, ran_more, run_through, ran_first, names_risen, are_back, refused_outcome, told_fault, no_answer, ran_none, ran_to_end}
+use Rattle.mode_switch.proofs.RunLemmas.{all_get, next_mode, modes_back, filled_after, own_after, stopped_in, ran_more, run_through, ran_first}
+use Rattle.mode_switch.proofs.RunLemmas.{names_risen, are_back, refused_outcome, told_fault, no_answer, ran_none, ran_to_end}
 use Rattle.mode_switch.specs.declared.answers.ModesFault.TheVariants as fault
 use Rattle.mode_switch.specs.Runs.{CrewHeld}
 use Rattle.mode_switch.proofs.running.run_modes.Goals as goal
@@ -36,14 +37,16 @@ run_mode-requires-clause-jobs g c κs within =
 pub returns-in-Err-clause-outcome : goal.returns-in-Err-clause-outcome
 returns-in-Err-clause-outcome g c =
     let next = next_mode c.args.modes.now c.count.ensures.lawful c.loop-j.j c.plan.result.now c.rounds.result c.plan.ensures.value c.rounds.ensures.value in
-    stopped_in _ _ c.args.modes.now c.loop-j.j c.plan.result.now c.rounds.result next c.loop-j.runs.items _ _ _ c.loop-j.invariant.ran c.run_mode.result c.run_mode.ensures
+    stopped_in _ _ c.args.modes.now c.loop-j.j c.plan.result.now c.rounds.result next c.loop-j.runs.items _ _ _ c.loop-j.invariant.ran c.run_mode.result
+    c.run_mode.ensures
     c.in-Err.fault c.in-Err.is c.in_mode.result c.in_mode.ensures
 
 pub returns-in-Err-clause-first : goal.returns-in-Err-clause-first
 returns-in-Err-clause-first g c =
     let next = next_mode c.args.modes.now c.count.ensures.lawful c.loop-j.j c.plan.result.now c.rounds.result c.plan.ensures.value c.rounds.ensures.value in
     let outcome =
-    stopped_in _ _ c.args.modes.now c.loop-j.j c.plan.result.now c.rounds.result next c.loop-j.runs.items _ _ _ c.loop-j.invariant.ran c.run_mode.result c.run_mode.ensures
+    stopped_in _ _ c.args.modes.now c.loop-j.j c.plan.result.now c.rounds.result next c.loop-j.runs.items _ _ _ c.loop-j.invariant.ran c.run_mode.result
+    c.run_mode.ensures
     c.in-Err.fault c.in-Err.is c.in_mode.result c.in_mode.ensures in
     ran_first _ _ c.args.modes.now.processors c.args.modes.now.modes c.count.ensures.lawful.each _ _ (Err c.in_mode.result) outcome
 
@@ -51,16 +54,19 @@ pub returns-in-Err-clause-risen : goal.returns-in-Err-clause-risen
 returns-in-Err-clause-risen g c =
     let next = next_mode c.args.modes.now c.count.ensures.lawful c.loop-j.j c.plan.result.now c.rounds.result c.plan.ensures.value c.rounds.ensures.value in
     let outcome =
-    stopped_in _ _ c.args.modes.now c.loop-j.j c.plan.result.now c.rounds.result next c.loop-j.runs.items _ _ _ c.loop-j.invariant.ran c.run_mode.result c.run_mode.ensures
+    stopped_in _ _ c.args.modes.now c.loop-j.j c.plan.result.now c.rounds.result next c.loop-j.runs.items _ _ _ c.loop-j.invariant.ran c.run_mode.result
+    c.run_mode.ensures
     c.in-Err.fault c.in-Err.is c.in_mode.result c.in_mode.ensures in
-    names_risen _ _ c.args.modes.now.processors c.args.modes.now.modes c.count.ensures.lawful.each (record { kits = c.args.kits.now.items; places = c.args.jobs.now.places }) _
+    names_risen _ _ c.args.modes.now.processors c.args.modes.now.modes c.count.ensures.lawful.each
+    (record { kits = c.args.kits.now.items; places = c.args.jobs.now.places }) _
     c.requires.kits c.in_mode.result outcome
 
 pub returns-in-Err-clause-back : goal.returns-in-Err-clause-back
 returns-in-Err-clause-back g c =
     let next = next_mode c.args.modes.now c.count.ensures.lawful c.loop-j.j c.plan.result.now c.rounds.result c.plan.ensures.value c.rounds.ensures.value in
     let outcome =
-    stopped_in _ _ c.args.modes.now c.loop-j.j c.plan.result.now c.rounds.result next c.loop-j.runs.items _ _ _ c.loop-j.invariant.ran c.run_mode.result c.run_mode.ensures
+    stopped_in _ _ c.args.modes.now c.loop-j.j c.plan.result.now c.rounds.result next c.loop-j.runs.items _ _ _ c.loop-j.invariant.ran c.run_mode.result
+    c.run_mode.ensures
     c.in-Err.fault c.in-Err.is c.in_mode.result c.in_mode.ensures in
     are_back _ _ c.args.modes.now.modes _ _ (Err c.in_mode.result) outcome
 
@@ -85,7 +91,8 @@ loop-j-preserved g c =
     record {
       count = omega (arith, long, more, count);
       room = omega (arith, room, same);
-      ran = ran_more _ _ c.args.modes.now c.loop-j.j c.plan.result.now c.rounds.result next c.loop-j.runs.items _ _ _ inv.ran c.run_mode.result c.run_mode.ensures
+      ran = ran_more _ _ c.args.modes.now c.loop-j.j c.plan.result.now c.rounds.result next c.loop-j.runs.items _ _ _ inv.ran c.run_mode.result
+          c.run_mode.ensures
           c.in-Ok.executed c.in-Ok.is c.push_reserved.new.self.items c.push_reserved.ensures.items;
     }
 
@@ -103,33 +110,39 @@ invariant_of-result g c =
 pub returns-clause-gates : goal.returns-clause-gates
 returns-clause-gates g c =
     let past : length c.args.modes.now.modes ≤ c.loop-j.j = omega (arith, c.count-j-end.ensures.value, c.loop-j-test.false) in
-    (run_through _ _ c.args.modes.now.processors c.args.modes.now.modes c.count.ensures.lawful.each c.loop-j.j c.loop-j.runs.items _ _ past c.loop-j.invariant.ran).gates
+    (run_through _ _ c.args.modes.now.processors c.args.modes.now.modes c.count.ensures.lawful.each c.loop-j.j c.loop-j.runs.items _ _ past
+    c.loop-j.invariant.ran).gates
 
 pub returns-clause-whole : goal.returns-clause-whole
 returns-clause-whole g c =
     let past : length c.args.modes.now.modes ≤ c.loop-j.j = omega (arith, c.count-j-end.ensures.value, c.loop-j-test.false) in
-    (run_through _ _ c.args.modes.now.processors c.args.modes.now.modes c.count.ensures.lawful.each c.loop-j.j c.loop-j.runs.items _ _ past c.loop-j.invariant.ran).whole
+    (run_through _ _ c.args.modes.now.processors c.args.modes.now.modes c.count.ensures.lawful.each c.loop-j.j c.loop-j.runs.items _ _ past
+    c.loop-j.invariant.ran).whole
 
 pub returns-clause-jobs : goal.returns-clause-jobs
 returns-clause-jobs g c =
     let past : length c.args.modes.now.modes ≤ c.loop-j.j = omega (arith, c.count-j-end.ensures.value, c.loop-j-test.false) in
-    (run_through _ _ c.args.modes.now.processors c.args.modes.now.modes c.count.ensures.lawful.each c.loop-j.j c.loop-j.runs.items _ _ past c.loop-j.invariant.ran).jobs
+    (run_through _ _ c.args.modes.now.processors c.args.modes.now.modes c.count.ensures.lawful.each c.loop-j.j c.loop-j.runs.items _ _ past
+    c.loop-j.invariant.ran).jobs
 
 pub returns-clause-first : goal.returns-clause-first
 returns-clause-first g c =
     let past : length c.args.modes.now.modes ≤ c.loop-j.j = omega (arith, c.count-j-end.ensures.value, c.loop-j-test.false) in
-    (run_through _ _ c.args.modes.now.processors c.args.modes.now.modes c.count.ensures.lawful.each c.loop-j.j c.loop-j.runs.items _ _ past c.loop-j.invariant.ran).first
+    (run_through _ _ c.args.modes.now.processors c.args.modes.now.modes c.count.ensures.lawful.each c.loop-j.j c.loop-j.runs.items _ _ past
+    c.loop-j.invariant.ran).first
 
 pub returns-clause-back : goal.returns-clause-back
 returns-clause-back g c =
     let past : length c.args.modes.now.modes ≤ c.loop-j.j = omega (arith, c.count-j-end.ensures.value, c.loop-j-test.false) in
-    (run_through _ _ c.args.modes.now.processors c.args.modes.now.modes c.count.ensures.lawful.each c.loop-j.j c.loop-j.runs.items _ _ past c.loop-j.invariant.ran).back
+    (run_through _ _ c.args.modes.now.processors c.args.modes.now.modes c.count.ensures.lawful.each c.loop-j.j c.loop-j.runs.items _ _ past
+    c.loop-j.invariant.ran).back
 
 pub returns-clause-risen : goal.returns-clause-risen
 returns-clause-risen g c = tt
 
 pub returns-in_err-runs-clause-outcome : goal.returns-in_err-runs-clause-outcome
-returns-in_err-runs-clause-outcome g c = refused_outcome _ _ c.args.modes.now.modes (record { kits = c.args.kits.now.items; places = c.args.jobs.now.places }) c.from_residual.result c.from_residual.ensures.1
+returns-in_err-runs-clause-outcome g c = refused_outcome _ _ c.args.modes.now.modes
+    (record { kits = c.args.kits.now.items; places = c.args.jobs.now.places }) c.from_residual.result c.from_residual.ensures.1
 
 pub returns-in_err-runs-clause-gates : goal.returns-in_err-runs-clause-gates
 returns-in_err-runs-clause-gates g c = no_answer c.from_residual.result fault.NoMemory _ c.from_residual.ensures.1

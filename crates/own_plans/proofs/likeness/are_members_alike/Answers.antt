@@ -59,7 +59,8 @@ loop-k-preserved c =
     let whole = c.args.whole.now in
     let own = c.args.own.now in
     below_more (AreAlikeAt whole own c.args.p.0 c.args.q.0 c.args.factor) c.loop-k.k c.loop-k.invariant
-    (alike_at whole own c.args.p.0 c.args.q.0 c.args.factor c.loop-k.k c.tree-in-loop-k.result.now c.tree-in-loop-k-2.result.now c.member-x.result.0 c.member-y.result.0
+    (alike_at whole own c.args.p.0 c.args.q.0 c.args.factor c.loop-k.k c.tree-in-loop-k.result.now c.tree-in-loop-k-2.result.now c.member-x.result.0
+    c.member-y.result.0
     c.tree-in-loop-k.ensures.value c.tree-in-loop-k-2.ensures.value c.member-x.ensures c.member-y.ensures
     (c.are_alike.ensures.rates c.if-not-are_alike.false) (c.are_alike.ensures.leaves c.if-not-are_alike.false))
 
@@ -71,7 +72,8 @@ returns c =
     let within = λ (k : ℕ) (l : k < length (members own c.args.q.0)).
     below_end k (length (members own c.args.q.0)) (length c.members-count.result.now) c.loop-k.k l all c.loop-k-test.false in
     λ _. record {
-      same = sym all ∙ sym c.if-members-count.false ∙ count_is c.tree-2.result.now whole c.tree-2.ensures.value c.args.p.0 c.members.result.now c.members.ensures;
+      same = sym all ∙ sym c.if-members-count.false ∙ count_is c.tree-2.result.now whole c.tree-2.ensures.value c.args.p.0 c.members.result.now
+          c.members.ensures;
       rates = λ k l. (c.loop-k.invariant k (within k l)).0;
       alike = λ k l. (c.loop-k.invariant k (within k l)).1;
     }

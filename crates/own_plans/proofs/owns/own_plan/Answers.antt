@@ -36,7 +36,8 @@ leaves_of-requires-clause-own c =
 
 pub leaves_of-requires-clause-same : goal.leaves_of-requires-clause-same
 leaves_of-requires-clause-same c =
-    same_members c.args.whole.now c.in-Some.plan c.args.i c.in-Some-factor_of.factor c.tree-3.result.now c.tree-4.result.now c.first_pack-pack.result.0 c.first_pack-root.result.0
+    same_members c.args.whole.now c.in-Some.plan c.args.i c.in-Some-factor_of.factor c.tree-3.result.now c.tree-4.result.now c.first_pack-pack.result.0
+    c.first_pack-root.result.0
     (c.is_own.ensures c.if-not-is_own.false) c.tree-3.ensures.value c.tree-4.ensures.value
     (c.first_pack-pack.ensures.value ∙ ap (λ (t : Tree). first_pack t c.args.i) c.tree.ensures.value)
     (c.first_pack-root.ensures.value ∙ ap (λ (t : Tree). first_pack t 0) c.tree-2.ensures.value)

@@ -19,5 +19,6 @@ loop-i-preserved c =
     let long = c.loop-i.invariant.0 in
     let more = c.in_ok-push-in-Some.ensures.items in (
       (let e = ap length more in let n = length-append c.loop-i.owns.items (c.in-Some.own ∷ []) in omega (arith, e, n, long)),
-      subst (AreInTurn c.args.plan.now) (sym more) (one_more c.args.plan.now c.loop-i.owns.items c.in-Some.own c.loop-i.invariant.1 (subst (λ n. IsOwnPlanOf c.args.plan.now n c.in-Some.own) (sym long) found)),
+      subst (AreInTurn c.args.plan.now) (sym more) (one_more c.args.plan.now c.loop-i.owns.items c.in-Some.own c.loop-i.invariant.1
+          (subst (λ n. IsOwnPlanOf c.args.plan.now n c.in-Some.own) (sym long) found)),
     )

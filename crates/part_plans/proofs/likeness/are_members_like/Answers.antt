@@ -19,7 +19,8 @@ member-requires-clause-node c = c.requires.whole.0
 
 pub member-requires-clause-member : goal.member-requires-clause-member
 member-requires-clause-member c =
-    subst (λ n. c.loop-k.k < n) (sym c.if-members-count.false ∙ length-members c.args.whole.now c.args.q.0 c.members.result.now c.members.ensures) c.loop-k-test.true
+    subst (λ n. c.loop-k.k < n) (sym c.if-members-count.false ∙ length-members c.args.whole.now c.args.q.0 c.members.result.now c.members.ensures)
+    c.loop-k-test.true
 
 pub member-requires-in-loop-k-clause-node : goal.member-requires-in-loop-k-clause-node
 member-requires-in-loop-k-clause-node c = c.requires.own.0
@@ -48,5 +49,6 @@ returns c =
     let own = length-members c.args.own.now c.args.p.0 c.members-count.result.now c.members-count.ensures in
     λ _. record {
       same = sym (length-members c.args.whole.now c.args.q.0 c.members.result.now c.members.ensures) ∙ c.if-members-count.false ∙ own;
-      each = λ k l. c.loop-k.invariant k (below_end k (length (members c.args.own.now c.args.p.0)) (length c.members-count.result.now) c.loop-k.k l own c.loop-k-test.false);
+      each = λ k l. c.loop-k.invariant k (below_end k (length (members c.args.own.now c.args.p.0)) (length c.members-count.result.now) c.loop-k.k l own
+          c.loop-k-test.false);
     }

@@ -51,7 +51,8 @@ returns-in-Pack c = λ told.
     let n = c.args.n.0 in
     let onto = c.args.onto.now in
     let x = get_or onto n 0 in
-    let within : x < length whole.tree.nodes = subst (λ m. x < m) (c.nodes.ensures.value ∙ ap (λ (t : Tree). length t.nodes) c.tree.ensures.value) c.if-x-nodes.false in
+    let within : x < length whole.tree.nodes = subst (λ m. x < m) (c.nodes.ensures.value ∙ ap (λ (t : Tree). length t.nodes) c.tree.ensures.value)
+    c.if-x-nodes.false in
     let pack : is_pack (kind_at own.tree n) ≡ true =
     ap is_pack (ap (λ (t : Tree). kind_at t n) (sym c.tree-2.ensures.value) ∙ sym c.kind.ensures ∙ c.in-Pack.is) in
     pack_like whole own onto c.args.factor n within pack
@@ -64,7 +65,8 @@ returns-then-are_rates_alike c = λ told.
     let own = c.args.own.now in
     let n = c.args.n.0 in
     let x = get_or c.args.onto.now n 0 in
-    let within : x < length whole.tree.nodes = subst (λ m. x < m) (c.nodes.ensures.value ∙ ap (λ (t : Tree). length t.nodes) c.tree.ensures.value) c.if-x-nodes.false in
+    let within : x < length whole.tree.nodes = subst (λ m. x < m) (c.nodes.ensures.value ∙ ap (λ (t : Tree). length t.nodes) c.tree.ensures.value)
+    c.if-x-nodes.false in
     let member : is_pack (kind_at own.tree n) ≡ false =
     ap is_pack (ap (λ (t : Tree). kind_at t n) (sym c.tree-2.ensures.value) ∙ sym c.kind.ensures ∙ c.in-Leaf.is) in
     leaf_like whole own c.args.onto.now c.args.factor n within member (c.are_rates_alike.ensures c.if-are_rates_alike.true) (c.are_leaves_alike.ensures told)

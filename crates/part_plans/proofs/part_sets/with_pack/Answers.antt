@@ -14,7 +14,8 @@ member-requires-clause-node c = subst (λ (t : Tree). c.args.pack.0 < length t.n
 pub member-requires-clause-member : goal.member-requires-clause-member
 member-requires-clause-member c =
     let read = length-members c.tree.result.now c.args.pack.0 c.members-k-end.result.now c.members-k-end.ensures in
-    subst (λ n. c.loop-k.k < n) (read ∙ ap (λ (t : Tree). length (members t c.args.pack.0)) (c.tree.ensures.value ∙ sym c.tree-in-loop-k.ensures.value)) c.loop-k-test.true
+    subst (λ n. c.loop-k.k < n) (read ∙ ap (λ (t : Tree). length (members t c.args.pack.0)) (c.tree.ensures.value ∙ sym c.tree-in-loop-k.ensures.value))
+    c.loop-k-test.true
 
 pub with_leaf-requires : goal.with_leaf-requires
 with_leaf-requires c =

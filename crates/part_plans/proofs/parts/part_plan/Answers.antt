@@ -14,7 +14,8 @@ returns-in_err-packs c = IfOk-from_err _ _ c.from_residual.ensures.0
 
 pub compiled-requires : goal.compiled-requires
 compiled-requires c =
-    subst (AreFirst c.args.whole.now.tree) (sym c.deref.ensures.value) (subst (λ (t : Tree). AreFirst t c.in_ok-packs.packs.items) c.tree.ensures.value c.in_ok-packs.ensures)
+    subst (AreFirst c.args.whole.now.tree) (sym c.deref.ensures.value) (subst (λ (t : Tree). AreFirst t c.in_ok-packs.packs.items) c.tree.ensures.value
+    c.in_ok-packs.ensures)
 
 pub returns-in_err-plan : goal.returns-in_err-plan
 returns-in_err-plan c = IfOk-from_err _ _ c.from_residual-in_err-plan.ensures.0

@@ -19,7 +19,8 @@ rounds-preserved c =
     let start = c.rounds.core.tick * part.factor in
     let end = c.run_part.new.core.tick * part.factor in
     let shows = c.run_part.new.shows in
-    let ends_are : c.push.new.self.items ≡ kept.ends.items ++ end ∷ [] = c.in_ok-push.ensures.items ∙ ap (λ n. kept.ends.items ++ n * part.factor ∷ []) c.now-in-rounds.ensures.value in
+    let ends_are : c.push.new.self.items ≡ kept.ends.items ++ end ∷ [] = c.in_ok-push.ensures.items ∙ ap (λ n. kept.ends.items ++ n * part.factor ∷ [])
+    c.now-in-rounds.ensures.value in
     let shows_are : c.extend_from_slice.new.self.items ≡ kept.shows.items ++ shows = c.in_ok-extend_from_slice.ensures.items in
     record {
       belongs = c.run_part.ensures.belongs;
@@ -33,7 +34,8 @@ rounds-smaller c =
     let now = c.now.ensures.value in
     let on = c.rounds-test.true in
     let most = c.requires.until in
-    let above = round_above c.args.part.now c.requires.part.part.some c.rounds.core.tick c.run_part.new.core.tick c.run_part.new.shows c.run_part.ensures.round in
+    let above = round_above c.args.part.now c.requires.part.part.some c.rounds.core.tick c.run_part.new.core.tick c.run_part.new.shows
+    c.run_part.ensures.round in
     omega (arith, now, on, most, above)
 
 pub rounds-init : goal.rounds-init

@@ -19,7 +19,8 @@ loop-k-preserved c =
     let on = c.loop-k-test.true in
     record {
       long = length-set c.loop-k.shows c.loop-k.k c.shown_of.result ∙ long;
-      each = one_more_shown c.args.part.now c.now-start.result c.loop-k.k c.loop-k.shows c.shown_of.result (omega (arith, long, many, same, on)) c.loop-k.invariant.each c.shown_of.ensures;
+      each = one_more_shown c.args.part.now c.now-start.result c.loop-k.k c.loop-k.shows c.shown_of.result (omega (arith, long, many, same, on))
+          c.loop-k.invariant.each c.shown_of.ensures;
     }
 
 pub go-requires-clause-belongs : goal.go-requires-clause-belongs
@@ -38,7 +39,8 @@ pub shown_of-requires-clause-round : goal.shown_of-requires-clause-round
 shown_of-requires-clause-round c = subst (λ n. IsRoundUpTo c.args.part.now.plan n c.go.new.self.tick) (sym c.now-start.ensures.value) c.go.ensures.round
 
 pub shown_of-requires-clause-pack : goal.shown_of-requires-clause-pack
-shown_of-requires-clause-pack c = subst (λ n. c.loop-k.k < n) (c.packs-k-end.ensures ∙ ap (λ (t : Tree). length (packs_at t 0)) c.tree.ensures.value) c.loop-k-test.true
+shown_of-requires-clause-pack c = subst (λ n. c.loop-k.k < n) (c.packs-k-end.ensures ∙ ap (λ (t : Tree). length (packs_at t 0)) c.tree.ensures.value)
+    c.loop-k-test.true
 
 pub bounds-shows-k : goal.bounds-shows-k
 bounds-shows-k c =

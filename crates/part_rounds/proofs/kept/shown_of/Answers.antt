@@ -8,7 +8,8 @@ use Rattle.part_rounds.proofs.kept.shown_of.Goals as goal
 
 pub holds-requires : goal.holds-requires
 holds-requires c =
-    let long = ap (λ (w : Placing). length w.last) (c.places-places.ensures ∙ c.requires.belongs.at.placed) ∙ length-last c.args.part.now.plan c.args.core.now.tick in
+    let long = ap (λ (w : Placing). length w.last) (c.places-places.ensures ∙ c.requires.belongs.at.placed) ∙ length-last c.args.part.now.plan
+    c.args.core.now.tick in
     let l = c.requires.pack in
     omega (arith, l, long)
 
@@ -20,15 +21,18 @@ returns-then-not-holds c =
 
 pub last_of-requires : goal.last_of-requires
 last_of-requires c =
-    let long = ap (λ (w : Placing). length w.last) (c.places-places.ensures ∙ c.requires.belongs.at.placed) ∙ length-last c.args.part.now.plan c.args.core.now.tick in
+    let long = ap (λ (w : Placing). length w.last) (c.places-places.ensures ∙ c.requires.belongs.at.placed) ∙ length-last c.args.part.now.plan
+    c.args.core.now.tick in
     let l = c.requires.pack in
     omega (arith, l, long)
 
 pub node_on-requires-clause-processor : goal.node_on-requires-clause-processor
 node_on-requires-clause-processor c =
     let onto = ap (λ (w : Placing). w.onto) (c.places-places.ensures ∙ c.requires.belongs.at.placed) in
-    let (q, is, at, within) = noted_here c.args.part.now c.know_lawful.ensures.lawful c.args.start c.args.core.now.tick c.args.k c.requires.round c.requires.pack
-    c.places-places.result.now.onto c.places-places.result.now.last onto c.know_noted.ensures (sym c.holds.ensures ∙ c.if-not-holds.false) c.last_of.result c.last_of.ensures in
+    let (q, is, at, within) = noted_here c.args.part.now c.know_lawful.ensures.lawful c.args.start c.args.core.now.tick c.args.k c.requires.round
+    c.requires.pack
+    c.places-places.result.now.onto c.places-places.result.now.last onto c.know_noted.ensures (sym c.holds.ensures ∙ c.if-not-holds.false) c.last_of.result
+    c.last_of.ensures in
     let same : Some q ≡ Some c.in-Some.q = sym is ∙ c.in-Some.is in
     let e : q ≡ c.in-Some.q = cc in
     omega (arith, within, e)
@@ -36,8 +40,10 @@ node_on-requires-clause-processor c =
 pub returns-in-None : goal.returns-in-None
 returns-in-None c =
     let onto = ap (λ (w : Placing). w.onto) (c.places-places.ensures ∙ c.requires.belongs.at.placed) in
-    let (q, is, at, within) = noted_here c.args.part.now c.know_lawful.ensures.lawful c.args.start c.args.core.now.tick c.args.k c.requires.round c.requires.pack
-    c.places-places.result.now.onto c.places-places.result.now.last onto c.know_noted.ensures (sym c.holds.ensures ∙ c.if-not-holds.false) c.last_of.result c.last_of.ensures in
+    let (q, is, at, within) = noted_here c.args.part.now c.know_lawful.ensures.lawful c.args.start c.args.core.now.tick c.args.k c.requires.round
+    c.requires.pack
+    c.places-places.result.now.onto c.places-places.result.now.last onto c.know_noted.ensures (sym c.holds.ensures ∙ c.if-not-holds.false) c.last_of.result
+    c.last_of.ensures in
     absurd (let same : Some q ≡ None = sym is ∙ c.in-None.is in cc)
 
 pub returns-in-Some : goal.returns-in-Some
@@ -45,11 +51,13 @@ returns-in-Some c =
     let part = c.args.part.now in
     let onto = ap (λ (w : Placing). w.onto) (c.places-places.ensures ∙ c.requires.belongs.at.placed) in
     let (q, is, at, within) = noted_here part c.know_lawful.ensures.lawful c.args.start c.args.core.now.tick c.args.k c.requires.round c.requires.pack
-    c.places-places.result.now.onto c.places-places.result.now.last onto c.know_noted.ensures (sym c.holds.ensures ∙ c.if-not-holds.false) c.last_of.result c.last_of.ensures in
+    c.places-places.result.now.onto c.places-places.result.now.last onto c.know_noted.ensures (sym c.holds.ensures ∙ c.if-not-holds.false) c.last_of.result
+    c.last_of.ensures in
     let same : Some q ≡ Some c.in-Some.q = sym is ∙ c.in-Some.is in
     let e : q ≡ c.in-Some.q = cc in
     let on : IsNodeOn part.plan c.args.start c.args.core.now.tick c.in-Some.q c.node_on.result =
     record { none = c.node_on.ensures.none; some = c.node_on.ensures.some; within = c.node_on.ensures.within } in
-    node_shown part c.know_lawful.ensures.lawful c.args.start c.args.core.now.tick c.args.k c.requires.round c.requires.pack q at within c.node_on.result c.leaf_for.result
+    node_shown part c.know_lawful.ensures.lawful c.args.start c.args.core.now.tick c.args.k c.requires.round c.requires.pack q at within c.node_on.result
+    c.leaf_for.result
     (subst (λ (n : ℕ). IsNodeOn part.plan c.args.start c.args.core.now.tick n c.node_on.result) (sym e) on)
     (λ n is'. c.leaf_for.ensures.some n is' ∙ ap (λ ls. Some (get_or ls n.0 Empty)) c.deref.ensures.value)

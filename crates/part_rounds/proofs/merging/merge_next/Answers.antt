@@ -20,7 +20,8 @@ add_changed-requires-clause-shown c =
     let seen = c.first_of-seen.result.now in
     let now = c.go_telling-count.new.leaves in
     let went = c.go_telling-count.ensures in
-    let shown = next_shown p tick c.args.leaves.now sum end c.go_telling-count.result c.go_telling-count.new.told seen c.first_of-seen.ensures.long c.first_of-seen.ensures.each
+    let shown = next_shown p tick c.args.leaves.now sum end c.go_telling-count.result c.go_telling-count.new.told seen c.first_of-seen.ensures.long
+    c.first_of-seen.ensures.each
     now c.requires.merging.gone went.all went.first went.others in
     subst (λ (n : ℕ). AreShown sum.rows.lanes seen now (rows_of_round p c.now-start.result n)) (sym c.now-end.ensures)
     (subst (λ (n : ℕ). AreShown sum.rows.lanes seen now (rows_of_round p n end)) (sym c.now-start.ensures) shown)

@@ -28,10 +28,17 @@ loop-k-preserved c =
     let many = c.requires.many in
     let told = c.loop-k.invariant.telling in
     let as_long = told.long in
-    let pack : get_or r.part.packs.items k 0 ≡ c.index-in-loop-k.result.now = read_at r.part.packs.items k c.index-in-loop-k.result.now 0 (omega (arith, lk, packs_long)) c.index-in-loop-k.ensures in
+    let pack : get_or r.part.packs.items k 0 ≡ c.index-in-loop-k.result.now = read_at r.part.packs.items k c.index-in-loop-k.result.now 0
+    (omega (arith, lk, packs_long)) c.index-in-loop-k.ensures in
     let leaf : get_or r.shows.items k None ≡ c.index.result.now = read_at r.shows.items k c.index.result.now None in_shows c.index.ensures in
-    let on = pack_shows whole w r.part o belongs.part now r.end now k r.shows.items round (omega arith) (goes_on whole w r.part o belongs.part now r.end r.shows.items round) lk in
-    let more = telling_more whole now r.part.packs.items k c.args.shows.now c.loop-k.shows (get_or r.shows.items k None) told (omega (arith, within, many, as_long)) on in
+    let on = pack_shows whole w r.part o belongs.part now r.end now k r.shows.items round (omega arith) (goes_on whole w r.part o belongs.part now r.end
+    r.shows.items round) lk in
+    let more = telling_more whole now r.part.packs.items k c.args.shows.now c.loop-k.shows (get_or r.shows.items k None) told (omega (
+      arith,
+      within,
+      many,
+      as_long,
+    )) on in
     let Q : ℕ → Option Leaf → Type 0 = λ i v. IsTelling whole now r.part.packs.items (k + 1) c.args.shows.now (set c.loop-k.shows i v) in
     record { telling = subst (λ (i : ℕ). Q i c.index.result.now) pack (subst (λ (v : Option Leaf). Q (get_or r.part.packs.items k 0) v) leaf more) }
 

@@ -18,8 +18,12 @@ part_rounds-requires c =
     let plan = c.args.plan.now in
     let owns = c.in-Some.found.parts.items in
     let are : ArePartPlansOf plan c.in-Some.found = rw c.in-Some.is at c.in_ok-found.ensures in
-    let turn = YieldsList-turn (YieldsList-from_vec owns (cc) (cc)) c.loop-own.yielded c.loop-own.own-iterator c.loop-own.yielded_by c.next.result c.next.new.self c.in-Some-own.own c.in-Some-own.is c.next.ensures.steps in
-    record { part = are.each (length c.loop-own.yielded) c.in-Some-own.own (slice_get_read owns (length owns) (length c.loop-own.yielded) c.in-Some-own.own refl turn.0 turn.1) }
+    let turn = YieldsList-turn (YieldsList-from_vec owns (cc) (cc)) c.loop-own.yielded c.loop-own.own-iterator c.loop-own.yielded_by c.next.result
+    c.next.new.self c.in-Some-own.own c.in-Some-own.is c.next.ensures.steps in
+    record {
+      part = are.each (length c.loop-own.yielded) c.in-Some-own.own (slice_get_read owns (length owns) (length c.loop-own.yielded) c.in-Some-own.own
+          refl turn.0 turn.1);
+    }
 
 pub loop-own-preserved : goal.loop-own-preserved
 loop-own-preserved c =
@@ -35,7 +39,8 @@ loop-own-preserved c =
       can = tt;
       finite = tt;
       long = ap (λ (xs : List PartRounds). length xs) more ∙ length_push sources rounds ∙ ap (λ n. n + 1) long ∙ sym (length_push yielded own);
-      first = subst (AreFirst plan (yielded ++ own ∷ [])) (sym more) (one_part plan yielded own sources rounds c.loop-own.invariant.first long is.belongs c.know_lawful-in-loop-own.ensures.lawful is.first is.part);
+      first = subst (AreFirst plan (yielded ++ own ∷ [])) (sym more) (one_part plan yielded own sources rounds c.loop-own.invariant.first long is.belongs
+          c.know_lawful-in-loop-own.ensures.lawful is.first is.part);
     }
 
 pub packs-requires : goal.packs-requires
@@ -53,9 +58,18 @@ returns-clause-belongs c =
     let shows = c.in_ok-vec.field-0 in
     let are : ArePartPlansOf plan found = rw c.in-Some.is at c.in_ok-found.ensures in
     let given = c.into_iter-own-iterator.ensures.into_iter_gives in
-    let all = YieldsList-end (YieldsList-from_vec owns given.0 (given.1 ∙ found.parts.ok.0)) c.loop-own.yielded c.loop-own.own-iterator c.loop-own.yielded_by c.next.result c.next.new.self c.in-None.is c.next.ensures.steps in
+    let all = YieldsList-end (YieldsList-from_vec owns given.0 (given.1 ∙ found.parts.ok.0)) c.loop-own.yielded c.loop-own.own-iterator
+    c.loop-own.yielded_by c.next.result c.next.new.self c.in-None.is c.next.ensures.steps in
     let same : c.loop-own.yielded ≡ owns = sym (each_same c.loop-own.yielded) ∙ all.0 in
     let first = subst (λ (ps : List PartPlan). AreFirst plan ps sources.items) same c.loop-own.invariant.first in
-    let packs : length shows.items ≡ packs_of plan = sym shows.ok.0 ∙ c.in_ok-vec.ensures.len ∙ c.packs.ensures ∙ ap (λ (t : Tree). length (packs_at t 0)) c.tree.ensures.value in
-    first_parted plan found are (record { parts = sources; part = found.part; like = found.like; placed = c.in_ok-none_placed.field-0; shows = shows; tick = 0 })
+    let packs : length shows.items ≡ packs_of plan = sym shows.ok.0 ∙ c.in_ok-vec.ensures.len ∙ c.packs.ensures ∙ ap (λ (t : Tree). length (packs_at t 0))
+    c.tree.ensures.value in
+    first_parted plan found are (record {
+      parts = sources;
+      part = found.part;
+      like = found.like;
+      placed = c.in_ok-none_placed.field-0;
+      shows = shows;
+      tick = 0;
+    })
     c.requires.on_time refl (c.loop-own.invariant.long ∙ all.1) refl refl first packs c.in_ok-none_placed.ensures

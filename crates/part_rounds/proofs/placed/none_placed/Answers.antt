@@ -13,7 +13,8 @@ only_none P none None h = refl
 only_none P none (Some x) h = absurd (none x h)
 
 pub packs-packs-requires : goal.packs-packs-requires
-packs-packs-requires c = let h = c.know_lawful.ensures.lawful in subst (λ (t : Tree). 0 < t.levels) (sym c.tree.ensures.value) (some_level c.args.plan.now.tree h.tree.tree h.sized.some_processors)
+packs-packs-requires c = let h = c.know_lawful.ensures.lawful in subst (λ (t : Tree). 0 < t.levels) (sym c.tree.ensures.value)
+    (some_level c.args.plan.now.tree h.tree.tree h.sized.some_processors)
 
 pub returns : goal.returns
 returns c =

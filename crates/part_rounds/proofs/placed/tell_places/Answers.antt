@@ -11,5 +11,6 @@ loop-k-preserved c =
     let on = c.loop-k-test.true in
     let room = c.requires.room in
     let kept = c.loop-k.auto.told in
-    told_next c.args.places.now c.args.packs.now c.loop-k.told c.tell-count.new.told c.loop-k.k c.loop-k.count c.tell-count.result c.last_of.result c.know_noted.ensures (omega (arith, few, on, room, kept)) (sym c.last_of.ensures)
+    told_next c.args.places.now c.args.packs.now c.loop-k.told c.tell-count.new.told c.loop-k.k c.loop-k.count c.tell-count.result c.last_of.result
+    c.know_noted.ensures (omega (arith, few, on, room, kept)) (sym c.last_of.ensures)
     c.tell-count.ensures.some c.tell-count.ensures.none c.loop-k.invariant

@@ -9,5 +9,6 @@ overflow_mul-whole c =
 
 pub returns-clause-belongs : goal.returns-clause-belongs
 returns-clause-belongs c =
-    again_begins c.args.plan.now _ c.requires.part c.know_lawful.ensures.lawful c.requires.can c.args.turn c.requires.turns c.requires.kept c.requires.end c.requires.long
+    again_begins c.args.plan.now _ c.requires.part c.know_lawful.ensures.lawful c.requires.can c.args.turn c.requires.turns c.requires.kept c.requires.end
+    c.requires.long
     refl refl refl refl c.rounds_end-stop.ensures.value refl

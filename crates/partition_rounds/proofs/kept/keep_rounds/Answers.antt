@@ -8,7 +8,8 @@ use Rattle.partition_rounds.proofs.kept.keep_rounds.Goals as goal
 pub overflow_mul-now : goal.overflow_mul-now
 overflow_mul-now c =
     let own = c.args.own.now in
-    let most = tick_fits c.args.plan.now c.know_lawful.ensures.lawful own c.args.q c.requires.own c.run_own-leaf.new.core.tick c.run_own-leaf.ensures.belongs.at.early in
+    let most = tick_fits c.args.plan.now c.know_lawful.ensures.lawful own c.args.q c.requires.own c.run_own-leaf.new.core.tick
+    c.run_own-leaf.ensures.belongs.at.early in
     let now = ap (λ n. n * own.factor) c.now-in-rounds.ensures.value in
     omega (arith, most, now)
 
@@ -20,7 +21,8 @@ rounds-preserved c =
     let start = c.rounds.core.tick * own.factor in
     let end = c.run_own-leaf.new.core.tick * own.factor in
     let leaf = c.run_own-leaf.result in
-    let ends_are : c.push.new.self.items ≡ kept.ends.items ++ end ∷ [] = c.in_ok-push.ensures.items ∙ ap (λ n. kept.ends.items ++ n * own.factor ∷ []) c.now-in-rounds.ensures.value in
+    let ends_are : c.push.new.self.items ≡ kept.ends.items ++ end ∷ [] = c.in_ok-push.ensures.items ∙ ap (λ n. kept.ends.items ++ n * own.factor ∷ [])
+    c.now-in-rounds.ensures.value in
     let shows_are : c.push-in-rounds.new.self.items ≡ kept.shows.items ++ leaf ∷ [] = c.in_ok-push-2.ensures.items in
     record {
       belongs = c.run_own-leaf.ensures.belongs;
@@ -33,7 +35,8 @@ rounds-smaller c =
     let now = c.now.ensures.value in
     let on = c.rounds-test.true in
     let most = c.requires.until in
-    let above = round_above c.args.own.now c.requires.own.own.some c.rounds.core.tick c.run_own-leaf.new.core.tick c.run_own-leaf.result c.run_own-leaf.ensures.round in
+    let above = round_above c.args.own.now c.requires.own.own.some c.rounds.core.tick c.run_own-leaf.new.core.tick c.run_own-leaf.result
+    c.run_own-leaf.ensures.round in
     omega (arith, now, on, most, above)
 
 pub rounds-init : goal.rounds-init

@@ -16,7 +16,8 @@ overflow_cast-q c =
     let w = c.know_lawful.ensures.lawful in
     let owns = c.in-Some.plans.items in
     let are : AreOwnPlansOf plan owns = rw c.in-Some.is at c.in_ok-plans.ensures in
-    let turn = YieldsList-turn (YieldsList-from_vec owns (cc) (cc)) c.loop-own.yielded c.loop-own.own-iterator c.loop-own.yielded_by c.next.result c.next.new.self c.in-Some-own.own c.in-Some-own.is c.next.ensures.steps in
+    let turn = YieldsList-turn (YieldsList-from_vec owns (cc) (cc)) c.loop-own.yielded c.loop-own.own-iterator c.loop-own.yielded_by c.next.result
+    c.next.new.self c.in-Some-own.own c.in-Some-own.is c.next.ensures.steps in
     let low = turn.0 in
     let few = w.sized.few_processors in
     let many = are.many in
@@ -29,10 +30,13 @@ own_rounds-requires c =
     let plan = c.args.plan.now in
     let owns = c.in-Some.plans.items in
     let are : AreOwnPlansOf plan owns = rw c.in-Some.is at c.in_ok-plans.ensures in
-    let turn = YieldsList-turn (YieldsList-from_vec owns (cc) (cc)) c.loop-own.yielded c.loop-own.own-iterator c.loop-own.yielded_by c.next.result c.next.new.self c.in-Some-own.own c.in-Some-own.is c.next.ensures.steps in
+    let turn = YieldsList-turn (YieldsList-from_vec owns (cc) (cc)) c.loop-own.yielded c.loop-own.own-iterator c.loop-own.yielded_by c.next.result
+    c.next.new.self c.in-Some-own.own c.in-Some-own.is c.next.ensures.steps in
     let here : IsOwnPlanOf plan (length c.loop-own.yielded) c.in-Some-own.own =
-    are.each (length c.loop-own.yielded) c.in-Some-own.own (slice_get_read owns (length owns) (length c.loop-own.yielded) c.in-Some-own.own refl turn.0 turn.1) in
-    let at : length c.loop-own.yielded ≡ c.len-q.result = (let e = c.len-q.ensures in let n = c.loop-own.lanes.ok in let long = c.loop-own.invariant.long in omega arith) in
+    are.each (length c.loop-own.yielded) c.in-Some-own.own (slice_get_read owns (length owns) (length c.loop-own.yielded) c.in-Some-own.own refl turn.0
+    turn.1) in
+    let at : length c.loop-own.yielded ≡ c.len-q.result = (let e = c.len-q.ensures in let n = c.loop-own.lanes.ok in let long = c.loop-own.invariant.long in
+    omega arith) in
     record { own = subst (λ n. IsOwnPlanOf plan n c.in-Some-own.own) at here }
 
 pub loop-own-preserved : goal.loop-own-preserved
@@ -47,8 +51,10 @@ loop-own-preserved c =
     record {
       can = tt;
       finite = tt;
-      long = ap (λ (xs : List OwnRounds). length xs) more ∙ length_push lanes rounds ∙ ap (λ n. n + 1) long ∙ sym (length_push c.loop-own.yielded c.in-Some-own.own);
-      first = subst (AreFirst plan) (sym more) (one_lane plan lanes rounds c.loop-own.invariant.first belongs c.know_lawful-in-loop-own.ensures.lawful c.in_ok-rounds.ensures.first);
+      long = ap (λ (xs : List OwnRounds). length xs) more ∙ length_push lanes rounds ∙ ap (λ n. n + 1) long
+          ∙ sym (length_push c.loop-own.yielded c.in-Some-own.own);
+      first = subst (AreFirst plan) (sym more) (one_lane plan lanes rounds c.loop-own.invariant.first belongs c.know_lawful-in-loop-own.ensures.lawful
+          c.in_ok-rounds.ensures.first);
     }
 
 pub returns-then-some-2-clause-belongs : goal.returns-then-some-2-clause-belongs
@@ -56,6 +62,7 @@ returns-then-some-2-clause-belongs c =
     let plan = c.args.plan.now in
     let owns = c.in-Some.plans.items in
     let are : AreOwnPlansOf plan owns = rw c.in-Some.is at c.in_ok-plans.ensures in
-    let all = YieldsList-end (YieldsList-from_vec owns (cc) (cc)) c.loop-own.yielded c.loop-own.own-iterator c.loop-own.yielded_by c.next.result c.next.new.self c.in-None.is c.next.ensures.steps in
+    let all = YieldsList-end (YieldsList-from_vec owns (cc) (cc)) c.loop-own.yielded c.loop-own.own-iterator c.loop-own.yielded_by c.next.result
+    c.next.new.self c.in-None.is c.next.ensures.steps in
     first_partition plan c.know_lawful.ensures.lawful (record { lanes = c.loop-own.lanes; tick = 0 }) are.partitioned c.requires.on_time refl
     (c.loop-own.invariant.long ∙ all.1 ∙ are.many) c.loop-own.invariant.first

@@ -17,10 +17,12 @@ pub returns-clause-told : goal.returns-clause-told
 returns-clause-told g c =
     let old = streams_of g.R.Source g.W.Sink c.args.source.now c.args.out.now in
     let new = streams_of g.R.Source g.W.Sink c.read_checked_source.new.source c.write_verdict.new.out in
-    IfOk-weaker c.write_verdict.result _ _ (λ status h. verdict_told old new c.in_ok-trace.trace status (record { gave = c.in_ok-trace.ensures.trace }) h) c.write_verdict.ensures.told
+    IfOk-weaker c.write_verdict.result _ _ (λ status h. verdict_told old new c.in_ok-trace.trace status (record { gave = c.in_ok-trace.ensures.trace }) h)
+    c.write_verdict.ensures.told
 
 pub returns-clause-stops : goal.returns-clause-stops
 returns-clause-stops g c =
     let old = streams_of g.R.Source g.W.Sink c.args.source.now c.args.out.now in
     let new = streams_of g.R.Source g.W.Sink c.read_checked_source.new.source c.write_verdict.new.out in
-    IfErr-weaker c.write_verdict.result _ _ (λ r h. verdict_stopped old new c.in_ok-trace.trace r (record { gave = c.in_ok-trace.ensures.trace }) h) c.write_verdict.ensures.stops
+    IfErr-weaker c.write_verdict.result _ _ (λ r h. verdict_stopped old new c.in_ok-trace.trace r (record { gave = c.in_ok-trace.ensures.trace }) h)
+    c.write_verdict.ensures.stops

@@ -2,7 +2,9 @@ use Rattle.std.proofs.Common.{◌≡◌, ◌∙◌, arith, refl}
 use Rattle.pure_commands.specs.Refusals.{refusal_line}
 use Rattle.pure_commands.proofs.LineLemmas.{wrote_as}
 use Rattle.pure_commands.proofs.refusal_line.write_refusal.Goals as goal
-use Rattle.pure_commands.proofs.refusal_line.write_refusal.Goals.{in-Usage, in-ReadFault, in-WriteFault, in-NoMemory, in-BadLine, in-BadProgram, in-Overload, in-ScaleTooLarge, in-TooLong, in-GateFault, in-JobFault, in-InputTooLong, in-BadTree, in-TooWide, in-NoRepeat, in-WideRepeat}
+use Rattle.pure_commands.proofs.refusal_line.write_refusal.Goals.{in-Usage, in-ReadFault, in-WriteFault, in-NoMemory, in-BadLine, in-BadProgram}
+use Rattle.pure_commands.proofs.refusal_line.write_refusal.Goals.{in-Overload, in-ScaleTooLarge, in-TooLong, in-GateFault, in-JobFault}
+use Rattle.pure_commands.proofs.refusal_line.write_refusal.Goals.{in-InputTooLong, in-BadTree, in-TooWide, in-NoRepeat, in-WideRepeat}
 
 pub returns-in-BadSet-clause-wrote : goal.returns-in-BadSet-clause-wrote
 returns-in-BadSet-clause-wrote g c = rw c.in-BadSet.is c.write_set_refusal.ensures.wrote

@@ -3,7 +3,9 @@ use Rattle.pure_commands.specs.Refusals.{refusal_line}
 use Rattle.pure_commands.specs.declared.refusal.Refusal.TheVariants.{BadSet}
 use Rattle.pure_commands.proofs.LineLemmas.{wrote_as}
 use Rattle.pure_commands.proofs.refusal_line.write_set_refusal.Goals as goal
-use Rattle.pure_commands.proofs.refusal_line.write_set_refusal.Goals.{in-NotToml, in-Missing, in-WrongKind, in-BadProcessors, in-BadHorizon, in-TooManyTasks, in-BadName, in-SameName, in-BadPeriod, in-BadWork, in-BadOffset, in-NoMemory}
+use Rattle.pure_commands.proofs.refusal_line.write_set_refusal.Goals.{in-NotToml, in-Missing, in-WrongKind, in-BadProcessors, in-BadHorizon}
+use Rattle.pure_commands.proofs.refusal_line.write_set_refusal.Goals.{in-TooManyTasks, in-BadName, in-SameName, in-BadPeriod, in-BadWork}
+use Rattle.pure_commands.proofs.refusal_line.write_set_refusal.Goals.{in-BadOffset, in-NoMemory}
 
 pub returns-in-UnknownKey-clause-wrote : goal.returns-in-UnknownKey-clause-wrote
 returns-in-UnknownKey-clause-wrote g c = rw (c.in-UnknownKey.is, ← c.as_slice.ensures) c.write_key_line.ensures.wrote

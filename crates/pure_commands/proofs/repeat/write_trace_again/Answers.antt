@@ -18,4 +18,5 @@ returns-clause-done g c =
 
 pub returns-clause-stops : goal.returns-clause-stops
 returns-clause-stops g c =
-    repeated_stops (schedule_rows false) c.args.set.now c.in_ok-again.again _ _ _ _ c.in_ok-again.ensures.repeats (λ r lacks. lacks) c.write_set.result c.write_set.ensures.stops
+    repeated_stops (schedule_rows false) c.args.set.now c.in_ok-again.again _ _ _ _ c.in_ok-again.ensures.repeats (λ r lacks. lacks) c.write_set.result
+    c.write_set.ensures.stops

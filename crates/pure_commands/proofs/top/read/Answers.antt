@@ -6,7 +6,8 @@ use Rattle.exit_status.specs.declared.Status.TheVariants.{Done}
 use Rattle.pure_commands.specs.Commands.{Output, output_of}
 use Rattle.pure_commands.specs.Ends.{Streams, streams_of, IsDone, Stops}
 use Rattle.pure_commands.proofs.top.read.Goals as goal
-use Rattle.pure_commands.proofs.top.read.Goals.{in-Rate, in-Tree, in-Trace, in-TraceMet, in-TraceWrap, in-TraceRepeat, in-Table, in-TableRepeat, in-Follow, in-Draw}
+use Rattle.pure_commands.proofs.top.read.Goals.{in-Rate, in-Tree, in-Trace, in-TraceMet, in-TraceWrap, in-TraceRepeat, in-Table, in-TableRepeat}
+use Rattle.pure_commands.proofs.top.read.Goals.{in-Follow, in-Draw}
 
 -- the result is `Done` where the text was told, else the refusal
 abbrev IsDoneAs : Result (Unit {0}) Refusal → Result Status Refusal → Type 0
@@ -39,11 +40,23 @@ returns g c =
       | in-Rate w ↦ rw (w.in-Rate.is, w.told-is, w.source-is, w.out-is) (w.tell_set-told.ensures.done, w.tell_set-told.ensures.stops)
       | in-Tree w ↦ rw (w.in-Tree.is, w.told-is, w.source-is, w.out-is) (w.tell_set-told-in-Tree.ensures.done, w.tell_set-told-in-Tree.ensures.stops)
       | in-Trace w ↦ rw (w.in-Trace.is, w.told-is, w.source-is, w.out-is) (w.tell_set-told-in-Trace.ensures.done, w.tell_set-told-in-Trace.ensures.stops)
-      | in-TraceMet w ↦ rw (w.in-TraceMet.is, w.told-is, w.source-is, w.out-is) (w.tell_set-told-in-TraceMet.ensures.done, w.tell_set-told-in-TraceMet.ensures.stops)
-      | in-TraceWrap w ↦ rw (w.in-TraceWrap.is, w.told-is, w.source-is, w.out-is) (w.tell_set-told-in-TraceWrap.ensures.done, w.tell_set-told-in-TraceWrap.ensures.stops)
-      | in-TraceRepeat w ↦ rw (w.in-TraceRepeat.is, w.told-is, w.source-is, w.out-is) (w.tell_set-told-in-TraceRepeat.ensures.done, w.tell_set-told-in-TraceRepeat.ensures.stops)
+      | in-TraceMet w ↦ rw (w.in-TraceMet.is, w.told-is, w.source-is, w.out-is) (
+        w.tell_set-told-in-TraceMet.ensures.done,
+        w.tell_set-told-in-TraceMet.ensures.stops,
+      )
+      | in-TraceWrap w ↦ rw (w.in-TraceWrap.is, w.told-is, w.source-is, w.out-is) (
+        w.tell_set-told-in-TraceWrap.ensures.done,
+        w.tell_set-told-in-TraceWrap.ensures.stops,
+      )
+      | in-TraceRepeat w ↦ rw (w.in-TraceRepeat.is, w.told-is, w.source-is, w.out-is) (
+        w.tell_set-told-in-TraceRepeat.ensures.done,
+        w.tell_set-told-in-TraceRepeat.ensures.stops,
+      )
       | in-Table w ↦ rw (w.in-Table.is, w.told-is, w.source-is, w.out-is) (w.tell_set-told-in-Table.ensures.done, w.tell_set-told-in-Table.ensures.stops)
-      | in-TableRepeat w ↦ rw (w.in-TableRepeat.is, w.told-is, w.source-is, w.out-is) (w.tell_set-told-in-TableRepeat.ensures.done, w.tell_set-told-in-TableRepeat.ensures.stops)
+      | in-TableRepeat w ↦ rw (w.in-TableRepeat.is, w.told-is, w.source-is, w.out-is) (
+        w.tell_set-told-in-TableRepeat.ensures.done,
+        w.tell_set-told-in-TableRepeat.ensures.stops,
+      )
       | in-Follow w ↦ rw (w.in-Follow.is, w.told-is, w.source-is, w.out-is) (w.follow-told.ensures.done, w.follow-told.ensures.stops)
       | in-Draw w ↦ rw (w.in-Draw.is, w.told-is, w.source-is, w.out-is) (w.draw-told.ensures.done, w.draw-told.ensures.stops)
     ] in

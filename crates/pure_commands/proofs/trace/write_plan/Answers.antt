@@ -30,7 +30,8 @@ write_merged_rows-requires-clause-lawful g c = rw c.set-set.ensures.value c.in_o
 pub returns-clause-stops : goal.returns-clause-stops
 returns-clause-stops g c =
     let p = c.args.plan.now in
-    let told = rw (merged_text c.args.met p c.in_ok-rows.rows.lanes c.in_ok-rows.ensures.rows) at (rw (c.set-set.ensures.value, c.scale-scale.ensures.value) at c.write_merged_rows.ensures.wrote) in
+    let told = rw (merged_text c.args.met p c.in_ok-rows.rows.lanes c.in_ok-rows.ensures.rows) at (rw (c.set-set.ensures.value, c.scale-scale.ensures.value)
+    at c.write_merged_rows.ensures.wrote) in
     if_unwritten c.write_merged_rows.result c.written.result c.written.ensures _ _ _ told.err c.write_merged_rows.ensures.cause.failed
     (λ took rose. (
       p.tree.scale,
@@ -43,7 +44,8 @@ returns-clause-stops g c =
 pub returns-clause-done : goal.returns-clause-done
 returns-clause-done g c =
     let p = c.args.plan.now in
-    let told = rw (merged_text c.args.met p c.in_ok-rows.rows.lanes c.in_ok-rows.ensures.rows) at (rw (c.set-set.ensures.value, c.scale-scale.ensures.value) at c.write_merged_rows.ensures.wrote) in
+    let told = rw (merged_text c.args.met p c.in_ok-rows.rows.lanes c.in_ok-rows.ensures.rows) at (rw (c.set-set.ensures.value, c.scale-scale.ensures.value)
+    at c.write_merged_rows.ensures.wrote) in
     on_written c.write_merged_rows.result c.written.result c.written.ensures _ _ told.ok (λ took. (
       p.tree.scale,
       c.requires.run,

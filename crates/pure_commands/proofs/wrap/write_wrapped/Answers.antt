@@ -30,7 +30,8 @@ write_wrapped_rows-requires-clause-lawful g c = c.in_ok-rows.ensures.lawful
 
 pub returns-clause-stops : goal.returns-clause-stops
 returns-clause-stops g c =
-    if_unwritten c.write_wrapped_rows.result c.written.result c.written.ensures _ _ _ c.write_wrapped_rows.ensures.wrote.err c.write_wrapped_rows.ensures.cause.failed
+    if_unwritten c.write_wrapped_rows.result c.written.result c.written.ensures _ _ _ c.write_wrapped_rows.ensures.wrote.err
+    c.write_wrapped_rows.ensures.cause.failed
     (λ took rose. (
       c.args.scale,
       c.requires.run,

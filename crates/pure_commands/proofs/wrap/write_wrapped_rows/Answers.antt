@@ -11,7 +11,8 @@ use Rattle.pure_commands.specs.SetTexts.{version_of, text_of, wrapped_rows}
 use Rattle.pure_commands.proofs.wrap.write_wrapped_rows.Goals as goal
 
 -- the text of merged rows
-merged_text : (s : SetContents) (scale : ℕ) (lanes : List (List Row)) → AreMergedOf scale s lanes → trace_text (version_of false s.tasks) s scale (all_rows lanes) ≡ text_of wrapped_rows s scale
+merged_text : (s : SetContents) (scale : ℕ) (lanes : List (List Row)) → AreMergedOf scale s lanes → trace_text (version_of false s.tasks) s scale
+    (all_rows lanes) ≡ text_of wrapped_rows s scale
 merged_text s scale lanes is = ap (trace_text (version_of false s.tasks) s scale) (ap all_rows is ∙ all_merged (lanes_of s.processors (wrapped scale s)))
 
 pub returns-clause-wrote : goal.returns-clause-wrote

@@ -20,4 +20,5 @@ returns-clause-value c = ap (λ n. n * c.args.scale) (c.from.ensures ∙ c.proce
 
 pub returns-clause-within : goal.returns-clause-within
 returns-clause-within c =
-    room_small c.from.result c.args.set.now.processors c.args.scale (c.from.ensures ∙ c.processors.ensures.value) c.processors.ensures.lawful.few_processors c.requires
+    room_small c.from.result c.args.set.now.processors c.args.scale (c.from.ensures ∙ c.processors.ensures.value) c.processors.ensures.lawful.few_processors
+    c.requires

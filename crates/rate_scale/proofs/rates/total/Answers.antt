@@ -19,7 +19,8 @@ module _ (c : After-task-item) where
   lawful =
       let tasks = c.tasks-tasks.result.now in
       let each = rw (← c.tasks-tasks.ensures.value) at c.tasks-tasks.ensures.lawful.each in
-      subst IsLawfulTask (sym is) (All-get_or IsLawfulTask tasks c.loop-task.task-index no_task c.loop-task-test.true (All-from_recursion IsLawfulTask tasks each))
+      subst IsLawfulTask (sym is) (All-get_or IsLawfulTask tasks c.loop-task.task-index no_task c.loop-task-test.true (All-from_recursion IsLawfulTask tasks
+      each))
 
 pub rate-sum-requires-clause-work_fits : goal.rate-sum-requires-clause-work_fits
 rate-sum-requires-clause-work_fits c = (lawful (goal.at.rate-sum-requires-clause-work_fits c).After-task-item).work_fits
@@ -35,7 +36,8 @@ pub rate-sum-requires-clause-divides : goal.rate-sum-requires-clause-divides
 rate-sum-requires-clause-divides c =
     let tasks = c.tasks-tasks.result.now in
     let divided = rw (← c.tasks-tasks.ensures.value) at c.requires.scale.divided in
-    subst (λ (t : Task). t.period ∣ c.args.scale) (sym (is (goal.at.rate-sum-requires-clause-divides c).After-task-item)) (period_divides tasks c.args.scale c.loop-task.task-index divided c.loop-task-test.true)
+    subst (λ (t : Task). t.period ∣ c.args.scale) (sym (is (goal.at.rate-sum-requires-clause-divides c).After-task-item)) (period_divides tasks c.args.scale
+    c.loop-task.task-index divided c.loop-task-test.true)
 
 pub rate-sum-requires-clause-scale_fits : goal.rate-sum-requires-clause-scale_fits
 rate-sum-requires-clause-scale_fits c = c.requires.scale_fits
@@ -65,7 +67,8 @@ loop-task-preserved c =
 pub returns-clause-value : goal.returns-clause-value
 returns-clause-value c =
     let off = c.loop-task-test.false in
-    c.loop-task.invariant.0 ∙ ap (total_of c.args.scale) (take_all c.loop-task.task-index c.tasks-tasks.result.now (omega (arith, off)) ∙ c.tasks-tasks.ensures.value)
+    c.loop-task.invariant.0 ∙ ap (total_of c.args.scale) (take_all c.loop-task.task-index c.tasks-tasks.result.now (omega (arith, off))
+    ∙ c.tasks-tasks.ensures.value)
 
 pub returns-clause-within : goal.returns-clause-within
 returns-clause-within c =

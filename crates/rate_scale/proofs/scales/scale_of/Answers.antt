@@ -12,7 +12,8 @@ loop-i-init c = (IsLeastMultiple-none, omega arith)
 passes : (c : goal.Then-next-gt-LIMIT) → PassesAt (2 ^ 94) c.args.set.now.tasks c.loop-i.i
 passes c =
     let tasks = c.tasks-task-items.result.now in
-    let next = IsLeastMultiple-next tasks c.loop-i.i c.task-item.result c.loop-i.scale c.from.result c.lcm-next.result c.loop-i-test.true c.task-item.is c.from.ensures c.loop-i.invariant.0 c.lcm-next.ensures.value c.lcm-next.ensures.some in
+    let next = IsLeastMultiple-next tasks c.loop-i.i c.task-item.result c.loop-i.scale c.from.result c.lcm-next.result c.loop-i-test.true c.task-item.is
+    c.from.ensures c.loop-i.invariant.0 c.lcm-next.ensures.value c.lcm-next.ensures.some in
     rw (← c.tasks-task-items.ensures.value) (record {
       within = c.loop-i-test.true;
       before = (c.loop-i.scale, IsScale-from_multiple _ _ c.loop-i.invariant.0, c.loop-i.invariant.1);
@@ -27,7 +28,8 @@ returns-then-next-gt-LIMIT-clause-refused c = (λ refused. PassesAt-whole _ _ _ 
 
 pub loop-i-preserved : goal.loop-i-preserved
 loop-i-preserved c = (
-  IsLeastMultiple-next c.tasks-task-items.result.now c.loop-i.i c.task-item.result c.loop-i.scale c.from.result c.lcm-next.result c.loop-i-test.true c.task-item.is c.from.ensures c.loop-i.invariant.0 c.lcm-next.ensures.value c.lcm-next.ensures.some,
+  IsLeastMultiple-next c.tasks-task-items.result.now c.loop-i.i c.task-item.result c.loop-i.scale c.from.result c.lcm-next.result c.loop-i-test.true
+      c.task-item.is c.from.ensures c.loop-i.invariant.0 c.lcm-next.ensures.value c.lcm-next.ensures.some,
   c.if-next-gt-LIMIT.false,
 )
 
@@ -41,4 +43,8 @@ pub returns-clause-scale : goal.returns-clause-scale
 returns-clause-scale c = whole c
 
 pub returns-clause-refused : goal.returns-clause-refused
-returns-clause-refused c = (λ refused. absurd (false≢true refused), λ past. absurd (let p = past c.loop-i.scale (whole c) in let w = c.loop-i.invariant.1 in omega (arith, p, w)))
+returns-clause-refused c = (
+  λ refused. absurd (false≢true refused),
+  λ past. absurd (let p = past c.loop-i.scale (whole c) in let w = c.loop-i.invariant.1 in
+      omega (arith, p, w)),
+)

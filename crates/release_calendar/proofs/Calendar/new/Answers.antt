@@ -29,15 +29,19 @@ turn_first-requires-clause-ends c =
 
 pub turn_first-requires-clause-none : goal.turn_first-requires-clause-none
 turn_first-requires-clause-none c =
-    c.deref_mut-2.ensures.value ∙ c.in_ok-ends.ensures ∙ ap (λ (n : ℕ). replicate n 0) c.nodes-count.ensures.value ∙ ap (λ (t : Tree). replicate (length t.nodes) 0) c.tree.ensures.value
+    c.deref_mut-2.ensures.value ∙ c.in_ok-ends.ensures ∙ ap (λ (n : ℕ). replicate n 0) c.nodes-count.ensures.value
+    ∙ ap (λ (t : Tree). replicate (length t.nodes) 0) c.tree.ensures.value
 
 pub invariant_of-result : goal.invariant_of-result
 invariant_of-result c =
     let w = ap (λ (xs : List ℕ). length xs) c.deref_mut.ensures.value in
     let w' = ap (λ (xs : List ℕ). length xs) c.deref_mut-2.ensures.value in
-    let b = c.turn_first.auto.begins ∙ ap (λ (xs : List ℕ). length xs) (c.deref_mut.ensures.value ∙ c.in_ok-begins.ensures) ∙ length-replicate c.nodes-count.result 0 in
-    let e = c.turn_first.auto.ends ∙ ap (λ (xs : List ℕ). length xs) (c.deref_mut-2.ensures.value ∙ c.in_ok-ends.ensures) ∙ length-replicate c.nodes-count.result 0 in
-    kept_written c.in_ok-begins.begins c.in_ok-ends.ends c.turn_first.new.begins c.turn_first.new.ends _ c.nodes-count.result _ 0 c.in_ok-next.next (sym w ∙ sym c.turn_first.auto.begins) (sym w' ∙ sym c.turn_first.auto.ends)
+    let b = c.turn_first.auto.begins ∙ ap (λ (xs : List ℕ). length xs) (c.deref_mut.ensures.value ∙ c.in_ok-begins.ensures) ∙ length-replicate
+    c.nodes-count.result 0 in
+    let e = c.turn_first.auto.ends ∙ ap (λ (xs : List ℕ). length xs) (c.deref_mut-2.ensures.value ∙ c.in_ok-ends.ensures) ∙ length-replicate
+    c.nodes-count.result 0 in
+    kept_written c.in_ok-begins.begins c.in_ok-ends.ends c.turn_first.new.begins c.turn_first.new.ends _ c.nodes-count.result _ 0 c.in_ok-next.next (sym w
+    ∙ sym c.turn_first.auto.begins) (sym w' ∙ sym c.turn_first.auto.ends)
     b e c.in_ok-begun.ensures (first_unit _) c.in_ok-next.ensures.fit c.in_ok-next.ensures.order c.in_ok-next.ensures.next.below
 
 pub returns : goal.returns
@@ -45,11 +49,15 @@ returns c =
     let count = c.nodes-count.ensures.value ∙ ap (λ (t : Tree). length t.nodes) c.tree.ensures.value in
     let w = ap (λ (xs : List ℕ). length xs) c.deref_mut.ensures.value in
     let w' = ap (λ (xs : List ℕ). length xs) c.deref_mut-2.ensures.value in
-    let b = c.turn_first.auto.begins ∙ ap (λ (xs : List ℕ). length xs) (c.deref_mut.ensures.value ∙ c.in_ok-begins.ensures) ∙ length-replicate c.nodes-count.result 0 ∙ count in
-    let e = c.turn_first.auto.ends ∙ ap (λ (xs : List ℕ). length xs) (c.deref_mut-2.ensures.value ∙ c.in_ok-ends.ensures) ∙ length-replicate c.nodes-count.result 0 ∙ count in (
+    let b = c.turn_first.auto.begins ∙ ap (λ (xs : List ℕ). length xs) (c.deref_mut.ensures.value ∙ c.in_ok-begins.ensures) ∙ length-replicate
+    c.nodes-count.result 0 ∙ count in
+    let e = c.turn_first.auto.ends ∙ ap (λ (xs : List ℕ). length xs) (c.deref_mut-2.ensures.value ∙ c.in_ok-ends.ensures) ∙ length-replicate
+    c.nodes-count.result 0 ∙ count in (
       refl,
-      belongs_written c.args.plan.now c.tree.ensures.lawful c.in_ok-begins.begins c.in_ok-ends.ends c.turn_first.new.begins c.turn_first.new.ends _ c.in_ok-steps.steps.items 0 c.in_ok-next.next (first_unit _) b e
-          (sym w ∙ sym c.turn_first.auto.begins) (sym w' ∙ sym c.turn_first.auto.ends) c.turn_first.ensures.windows c.turn_first.ensures.packs c.in_ok-next.ensures.next c.in_ok-steps.ensures,
+      belongs_written c.args.plan.now c.tree.ensures.lawful c.in_ok-begins.begins c.in_ok-ends.ends c.turn_first.new.begins c.turn_first.new.ends _
+          c.in_ok-steps.steps.items 0 c.in_ok-next.next (first_unit _) b e
+          (sym w ∙ sym c.turn_first.auto.begins) (sym w' ∙ sym c.turn_first.auto.ends) c.turn_first.ensures.windows c.turn_first.ensures.packs
+          c.in_ok-next.ensures.next c.in_ok-steps.ensures,
     )
 
 pub returns-in_err-steps : goal.returns-in_err-steps

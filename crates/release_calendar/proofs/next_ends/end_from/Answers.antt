@@ -7,12 +7,14 @@ use Rattle.release_calendar.proofs.next_ends.end_from.Goals as goal
 
 pub pack_end-requires-clause-pack : goal.pack_end-requires-clause-pack
 pack_end-requires-clause-pack c =
-    let is : kind_at c.args.plan.now.tree c.args.n.0 ≡ kind.Dual c.in-Dual.primal = sym (c.in-Dual.ensures ∙ ap (λ (t : Tree). kind_at t c.args.n.0) c.tree.ensures.value) in
+    let is : kind_at c.args.plan.now.tree c.args.n.0 ≡ kind.Dual c.in-Dual.primal = sym (c.in-Dual.ensures ∙ ap (λ (t : Tree). kind_at t c.args.n.0)
+    c.tree.ensures.value) in
     primal_pack c.args.plan.now c.requires.plan c.args.n.0 c.in-Dual.primal c.requires.member.0 is
 
 pub returns-in-Dual : goal.returns-in-Dual
 returns-in-Dual c =
-    let is : kind_at c.args.plan.now.tree c.args.n.0 ≡ kind.Dual c.in-Dual.primal = sym (c.in-Dual.ensures ∙ ap (λ (t : Tree). kind_at t c.args.n.0) c.tree.ensures.value) in
+    let is : kind_at c.args.plan.now.tree c.args.n.0 ≡ kind.Dual c.in-Dual.primal = sym (c.in-Dual.ensures ∙ ap (λ (t : Tree). kind_at t c.args.n.0)
+    c.tree.ensures.value) in
     c.pack_end.ensures ∙ dual_end_is c.args.plan.now c.requires.plan c.args.n.0 c.in-Dual.primal c.args.at c.requires.member.0 is
 
 pub leaf_end-requires-clause-plan : goal.leaf_end-requires-clause-plan

@@ -15,7 +15,8 @@ task_end-requires-clause-task c =
 
 pub task_end-requires-clause-begins : goal.task_end-requires-clause-begins
 task_end-requires-clause-begins c =
-    let on = leaf_begins c.args.plan.now c.requires.plan c.args.n.0 (Task c.in-Task.id) c.args.at c.requires.member.0 (c.requires.leaf ∙ ap kind.Leaf c.in-Task.is) c.requires.begins in
+    let on = leaf_begins c.args.plan.now c.requires.plan c.args.n.0 (Task c.in-Task.id) c.args.at c.requires.member.0 (c.requires.leaf
+    ∙ ap kind.Leaf c.in-Task.is) c.requires.begins in
     subst (λ (s : SetContents). task_boundary (task_at s.tasks c.in-Task.id.0) c.args.at ≡ true) (sym c.set.ensures.value) on
 
 pub returns-in-Task : goal.returns-in-Task

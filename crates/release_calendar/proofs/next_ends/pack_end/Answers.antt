@@ -10,25 +10,40 @@ use Rattle.release_calendar.proofs.next_ends.pack_end.Goals as goal
 pub member_end-requires-clause-member : goal.member_end-requires-clause-member
 member_end-requires-clause-member c =
     let p = c.args.plan.now in
-    let all : numbers c.members-member-items.result.now ≡ members p.tree c.args.p.0 = c.members-member-items.ensures ∙ ap (λ (t : Tree). members t c.args.p.0) c.tree.ensures.value in
-    let k : c.loop-member.member-index < length (members p.tree c.args.p.0) = omega (arith, c.loop-member-test.true, length-members p.tree c.args.p.0 c.members-member-items.result.now all) in
+    let all : numbers c.members-member-items.result.now ≡ members p.tree c.args.p.0 = c.members-member-items.ensures
+    ∙ ap (λ (t : Tree). members t c.args.p.0) c.tree.ensures.value in
+    let k : c.loop-member.member-index < length (members p.tree c.args.p.0) = omega (
+      arith,
+      c.loop-member-test.true,
+      length-members p.tree c.args.p.0
+          c.members-member-items.result.now all,
+    ) in
     let P : ℕ → Type 0 = λ m. IsMember p.tree m in
-    subst P (sym (member_at p.tree c.args.p.0 c.loop-member.member-index c.members-member-items.result.now all)) (c.requires.plan.tree.tree.members_are c.args.p.0 c.loop-member.member-index c.requires.pack k).0
+    subst P (sym (member_at p.tree c.args.p.0 c.loop-member.member-index c.members-member-items.result.now all)) (c.requires.plan.tree.tree.members_are
+    c.args.p.0 c.loop-member.member-index c.requires.pack k).0
 
 pub loop-member-preserved : goal.loop-member-preserved
 loop-member-preserved c =
     let p = c.args.plan.now in
-    let all : numbers c.members-member-items.result.now ≡ members p.tree c.args.p.0 = c.members-member-items.ensures ∙ ap (λ (t : Tree). members t c.args.p.0) c.tree.ensures.value in
+    let all : numbers c.members-member-items.result.now ≡ members p.tree c.args.p.0 = c.members-member-items.ensures
+    ∙ ap (λ (t : Tree). members t c.args.p.0) c.tree.ensures.value in
     let x = member_at p.tree c.args.p.0 c.loop-member.member-index c.members-member-items.result.now all in
     let found = c.member_end.ensures ∙ ap (λ y. window_end (boundary_of p y) c.args.at) x in
     subst (λ least. IsLeastOf p c.args.p.0 c.args.at (c.loop-member.member-index + 1) least) (sym c.min-first.ensures)
-    (least_more p c.requires.plan c.args.p.0 c.args.at c.loop-member.member-index c.loop-member.first c.member_end.result c.member_end.type_inv found c.loop-member.invariant)
+    (least_more p c.requires.plan c.args.p.0 c.args.at c.loop-member.member-index c.loop-member.first c.member_end.result c.member_end.type_inv found
+    c.loop-member.invariant)
 
 pub returns : goal.returns
 returns c =
     let p = c.args.plan.now in
-    let all : numbers c.members-member-items.result.now ≡ members p.tree c.args.p.0 = c.members-member-items.ensures ∙ ap (λ (t : Tree). members t c.args.p.0) c.tree.ensures.value in
-    let e : c.loop-member.member-index ≡ length (members p.tree c.args.p.0) = omega (arith, c.loop-member-test.false, c.loop-member.auto.member-index-end, length-members p.tree c.args.p.0 c.members-member-items.result.now all) in
+    let all : numbers c.members-member-items.result.now ≡ members p.tree c.args.p.0 = c.members-member-items.ensures
+    ∙ ap (λ (t : Tree). members t c.args.p.0) c.tree.ensures.value in
+    let e : c.loop-member.member-index ≡ length (members p.tree c.args.p.0) = omega (
+      arith,
+      c.loop-member-test.false,
+      c.loop-member.auto.member-index-end,
+      length-members p.tree c.args.p.0 c.members-member-items.result.now all,
+    ) in
     first_is p c.requires.plan c.args.p.0 c.args.at c.loop-member.first c.requires.pack
     (subst (λ count. IsLeastOf p c.args.p.0 c.args.at count c.loop-member.first) e c.loop-member.invariant)
 

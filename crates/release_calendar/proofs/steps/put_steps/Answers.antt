@@ -13,8 +13,10 @@ loop-x-preserved c = λ y l.
     let long = c.loop-x.auto.steps in
     elim (cases_eq y x) [
       | inl same ↦ subst (λ (z : ℕ). IsStep (boundary_of c.args.plan.now z) (get_or (set c.loop-x.steps x step) z 0)) (sym same)
-          (subst (λ (s : ℕ). IsStep (boundary_of c.args.plan.now x) s) (sym (same_at c.loop-x.steps x step (omega (arith, long, c.loop-x-test.true)))) c.step_of.ensures)
-      | inr ne ↦ subst (λ (s : ℕ). IsStep (boundary_of c.args.plan.now y) s) (sym (other_at c.loop-x.steps x y step ne)) (c.loop-x.invariant y (omega (arith, l, ne)))
+          (subst (λ (s : ℕ). IsStep (boundary_of c.args.plan.now x) s) (sym (same_at c.loop-x.steps x step (omega (arith, long, c.loop-x-test.true))))
+          c.step_of.ensures)
+      | inr ne ↦ subst (λ (s : ℕ). IsStep (boundary_of c.args.plan.now y) s) (sym (other_at c.loop-x.steps x y step ne))
+          (c.loop-x.invariant y (omega (arith, l, ne)))
     ]
 
 pub returns : goal.returns

@@ -21,5 +21,6 @@ loop-k-preserved c =
     let kept = c.loop-k.auto.due in
     let on = c.loop-k-test.true in
     let count = c.requires.count in
-    listed_step c.loop-k.due _ (numbers (take c.loop-k.k c.args.begun.now)) (numbers (take (c.loop-k.k + 1) c.args.begun.now)) (get_or c.args.begun.now c.loop-k.k no_node).0
+    listed_step c.loop-k.due _ (numbers (take c.loop-k.k c.args.begun.now)) (numbers (take (c.loop-k.k + 1) c.args.begun.now)) (get_or c.args.begun.now
+    c.loop-k.k no_node).0
     (omega (arith, within, at, kept)) refl (first_more c.args.begun.now c.loop-k.k no_node (omega (arith, on, count))) c.loop-k.invariant

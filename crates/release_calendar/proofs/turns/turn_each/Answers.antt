@@ -28,12 +28,16 @@ loop-x-preserved c =
           let at : get_or ends x 0 ≡ c.args.at = w.if-end-at.true in
           let ie = w.ends-is ∙ w.turn_due-end.ensures.ends in
           let end = w.end-is ∙ w.turn_due-end.ensures.end in
-          let same : (y : ℕ) → y < x → get_or ends' y 0 ≡ get_or ends y 0 = λ y l. ap (λ (xs : List ℕ). get_or xs y 0) ie ∙ other_at ends x y later (λ e. absurd (omega (arith, l, e))) in
+          let same : (y : ℕ) → y < x → get_or ends' y 0 ≡ get_or ends y 0 = λ y l. ap (λ (xs : List ℕ). get_or xs y 0) ie ∙ other_at ends x y later
+          (λ e. absurd (omega (arith, l, e))) in
           let here : c.if-end-at.end ≡ get_or ends' x 0 = end ∙ sym (ap (λ (xs : List ℕ). get_or xs x 0) ie ∙ same_at ends x later within) in
           let past = ends_later c.args.plan.now c.requires.plan ends c.args.at x was.0.turning.packs c.requires.at (omega (arith, within, kept, long)) at in (
-            turning_more c.args.plan.now c.requires.plan c.loop-x.begins ends c.if-end-at.begins ends' (numbers (take c.loop-x.turned c.loop-x.begun)) (numbers (take c.if-end-at.turned c.if-end-at.begun)) c.args.at x c.requires.at
-                (omega (arith, long_b, kept_b)) (omega (arith, long, kept)) (omega (arith, within, long, kept)) at (w.begins-is ∙ w.turn_due-end.ensures.begins) ie
-                (ap (λ (n : ℕ). numbers (take n c.if-end-at.begun)) w.turned-is ∙ ap (λ (ns : List NodeId). numbers (take (c.loop-x.turned + 1) ns)) w.begun-is ∙ w.list_one.ensures) was.0,
+            turning_more c.args.plan.now c.requires.plan c.loop-x.begins ends c.if-end-at.begins ends' (numbers (take c.loop-x.turned c.loop-x.begun))
+                (numbers (take c.if-end-at.turned c.if-end-at.begun)) c.args.at x c.requires.at
+                (omega (arith, long_b, kept_b)) (omega (arith, long, kept)) (omega (arith, within, long, kept)) at (w.begins-is
+                ∙ w.turn_due-end.ensures.begins) ie
+                (ap (λ (n : ℕ). numbers (take n c.if-end-at.begun)) w.turned-is ∙ ap (λ (ns : List NodeId). numbers (take (c.loop-x.turned + 1) ns))
+                w.begun-is ∙ w.list_one.ensures) was.0,
             elsewhere_step ends ends' c.args.at x c.if-end-at.end same here (λ e. past (sym end ∙ e)) was.1,
             subst (λ (d : ℕ). IsLeastEnd ends' (x + 1) d) (sym c.min-first.ensures) (least_step ends ends' x c.loop-x.first c.if-end-at.end same here was.2),
             subst (λ (xs : List ℕ). EndsFit xs) (sym ie) (fit_set ends x later was.3 w.turn_due-end.ensures.fits within),
@@ -43,8 +47,10 @@ loop-x-preserved c =
           (let same : (y : ℕ) → y < x → get_or ends' y 0 ≡ get_or ends y 0 = λ y l. ap (λ (xs : List ℕ). get_or xs y 0) w.ends-is in
           let here : c.if-end-at.end ≡ get_or ends' x 0 = w.end-is ∙ sym (ap (λ (xs : List ℕ). get_or xs x 0) w.ends-is) in (
             subst (λ (n : ℕ). AreTurning c.args.plan.now c.if-end-at.begins ends' (numbers (take n c.if-end-at.begun)) c.args.at) (sym w.turned-is)
-                (subst (λ (ns : List NodeId). AreTurning c.args.plan.now c.if-end-at.begins ends' (numbers (take c.loop-x.turned ns)) c.args.at) (sym w.begun-is)
-                (subst₂ (λ (xs ys : List ℕ). AreTurning c.args.plan.now xs ys (numbers (take c.loop-x.turned c.loop-x.begun)) c.args.at) (sym w.begins-is) (sym w.ends-is) was.0)),
+                (subst (λ (ns : List NodeId). AreTurning c.args.plan.now c.if-end-at.begins ends' (numbers (take c.loop-x.turned ns)) c.args.at)
+                (sym w.begun-is)
+                (subst₂ (λ (xs ys : List ℕ). AreTurning c.args.plan.now xs ys (numbers (take c.loop-x.turned c.loop-x.begun)) c.args.at) (sym w.begins-is)
+                (sym w.ends-is) was.0)),
             elsewhere_step ends ends' c.args.at x c.if-end-at.end same here (λ e. w.if-end-at.false (sym w.end-is ∙ e)) was.1,
             subst (λ (d : ℕ). IsLeastEnd ends' (x + 1) d) (sym c.min-first.ensures) (least_step ends ends' x c.loop-x.first c.if-end-at.end same here was.2),
             subst (λ (xs : List ℕ). EndsFit xs) (sym w.ends-is) was.3,

@@ -20,7 +20,12 @@ loop-first-smaller c =
     let kept = c.loop-first.auto.ends in
     let at = c.loop-first-test.true in
     let less = ending_less c.args.at c.loop-first.ends x (window_end (boundary_of c.args.plan.now x) c.args.at) within (omega (arith, here, at))
-    (ends_later c.args.plan.now c.requires.plan c.loop-first.ends c.args.at x c.loop-first.invariant.1.turning.packs c.requires.at (omega (arith, within, long, kept)) (omega (arith, here, at))) in
+    (ends_later c.args.plan.now c.requires.plan c.loop-first.ends c.args.at x c.loop-first.invariant.1.turning.packs c.requires.at (omega (
+      arith,
+      within,
+      long,
+      kept,
+    )) (omega (arith, here, at))) in
     subst (λ (xs : List ℕ). ending c.args.at xs < ending c.args.at c.loop-first.ends) (sym c.turn_due-end.ensures.ends) less
 
 pub loop-first-init : goal.loop-first-init
@@ -44,7 +49,12 @@ turn_due-end-requires-clause-member c =
     let long = c.requires.ends in
     let kept = c.loop-first.auto.ends in
     let at = c.loop-first-test.true in
-    ends_member c.args.plan.now c.requires.plan c.loop-first.ends c.args.at x c.loop-first.invariant.1.turning.packs c.requires.at (omega (arith, within, long, kept)) (omega (arith, here, at))
+    ends_member c.args.plan.now c.requires.plan c.loop-first.ends c.args.at x c.loop-first.invariant.1.turning.packs c.requires.at (omega (
+      arith,
+      within,
+      long,
+      kept,
+    )) (omega (arith, here, at))
 
 pub turn_due-end-requires-clause-boundary : goal.turn_due-end-requires-clause-boundary
 turn_due-end-requires-clause-boundary c =
@@ -56,7 +66,8 @@ turn_due-end-requires-clause-boundary c =
     let kept = c.loop-first.auto.ends in
     let at = c.loop-first-test.true in
     let end : get_or c.loop-first.ends x 0 ≡ c.args.at = omega (arith, here, at) in
-    let is = ends_member c.args.plan.now c.requires.plan c.loop-first.ends c.args.at x c.loop-first.invariant.1.turning.packs c.requires.at (omega (arith, within, long, kept)) (omega (arith, here, at)) in
+    let is = ends_member c.args.plan.now c.requires.plan c.loop-first.ends c.args.at x c.loop-first.invariant.1.turning.packs c.requires.at
+    (omega (arith, within, long, kept)) (omega (arith, here, at)) in
     (c.loop-first.invariant.1.turning.ready x is).due end
 
 pub turn_due-end-requires-clause-known : goal.turn_due-end-requires-clause-known
@@ -83,14 +94,19 @@ loop-first-preserved c =
     let kept_b = c.loop-first.auto.begins in
     let at = c.loop-first-test.true in
     let end = window_end (boundary_of c.args.plan.now x) c.args.at in
-    let order = c.set.ensures ∙ ap (λ (xs : List ℕ). set xs x c.turn_due-end.result) c.loop-first.invariant.0 ∙ ap (set c.loop-first.ends x) c.turn_due-end.ensures.end ∙ sym c.turn_due-end.ensures.ends in (
+    let order = c.set.ensures ∙ ap (λ (xs : List ℕ). set xs x c.turn_due-end.result) c.loop-first.invariant.0 ∙ ap (set c.loop-first.ends x)
+    c.turn_due-end.ensures.end ∙ sym c.turn_due-end.ensures.ends in (
       order,
-      turning_more c.args.plan.now c.requires.plan c.loop-first.begins c.loop-first.ends c.turn_due-end.new.begins c.turn_due-end.new.ends (numbers (take c.loop-first.turned c.loop-first.begun)) (numbers (take (c.loop-first.turned + 1) c.list_one.new.begun)) c.args.at x c.requires.at
-          (omega (arith, long_b, kept_b)) (omega (arith, long, kept)) (omega (arith, within, long, kept)) (omega (arith, here, at)) c.turn_due-end.ensures.begins c.turn_due-end.ensures.ends c.list_one.ensures c.loop-first.invariant.1,
+      turning_more c.args.plan.now c.requires.plan c.loop-first.begins c.loop-first.ends c.turn_due-end.new.begins c.turn_due-end.new.ends
+          (numbers (take c.loop-first.turned c.loop-first.begun)) (numbers (take (c.loop-first.turned + 1) c.list_one.new.begun)) c.args.at x c.requires.at
+          (omega (arith, long_b, kept_b)) (omega (arith, long, kept)) (omega (arith, within, long, kept)) (omega (arith, here, at))
+          c.turn_due-end.ensures.begins c.turn_due-end.ensures.ends c.list_one.ensures c.loop-first.invariant.1,
       subst (λ (xs : List ℕ). IsFirst xs c.first-first-in-loop-first.result) order c.first-first-in-loop-first.ensures,
-      λ fit. subst (λ (xs : List ℕ). EndsFit xs) (sym c.turn_due-end.ensures.ends) (fit_set c.loop-first.ends x end (c.loop-first.invariant.3 fit) c.turn_due-end.ensures.fits within),
+      λ fit. subst (λ (xs : List ℕ). EndsFit xs) (sym c.turn_due-end.ensures.ends) (fit_set c.loop-first.ends x end (c.loop-first.invariant.3 fit)
+          c.turn_due-end.ensures.fits within),
       (let less = ending_less c.args.at c.loop-first.ends x end within (omega (arith, here, at))
-          (ends_later c.args.plan.now c.requires.plan c.loop-first.ends c.args.at x c.loop-first.invariant.1.turning.packs c.requires.at (omega (arith, within, long, kept)) (omega (arith, here, at))) in
+          (ends_later c.args.plan.now c.requires.plan c.loop-first.ends c.args.at x c.loop-first.invariant.1.turning.packs c.requires.at
+          (omega (arith, within, long, kept)) (omega (arith, here, at))) in
           let is = ap (λ (xs : List ℕ). ending c.args.at xs) c.turn_due-end.ensures.ends in
           let room = c.loop-first.invariant.4 in
           let same = c.list_one.auto.begun in
@@ -116,17 +132,20 @@ pub returns-clause-turning : goal.returns-clause-turning
 returns-clause-turning c = c.loop-first.invariant.1
 
 pub set-requires-clause-index : goal.set-requires-clause-index
-set-requires-clause-index c = let within = c.loop-first.invariant.2.within in let order = ap (λ (xs : List ℕ). length xs) c.loop-first.invariant.0 in omega (arith, within, order)
+set-requires-clause-index c = let within = c.loop-first.invariant.2.within in let order = ap (λ (xs : List ℕ). length xs) c.loop-first.invariant.0 in
+    omega (arith, within, order)
 
 pub set-requires-clause-end : goal.set-requires-clause-end
 set-requires-clause-end c = let fits = c.turn_due-end.ensures.fits in let end = c.turn_due-end.ensures.end in omega (arith, fits, end)
 
 pub returns-clause-first : goal.returns-clause-first
-returns-clause-first c = subst (λ (d : ℕ). IsLeastEnd c.loop-first.ends (length c.loop-first.ends) d) (sym c.min.ensures) (least_first c.loop-first.ends c.loop-first.first c.loop-first.invariant.2)
+returns-clause-first c = subst (λ (d : ℕ). IsLeastEnd c.loop-first.ends (length c.loop-first.ends) d) (sym c.min.ensures) (least_first c.loop-first.ends
+    c.loop-first.first c.loop-first.invariant.2)
 
 pub returns-clause-later : goal.returns-clause-later
 returns-clause-later c =
-    elsewhere_first c.args.plan.now c.requires.plan c.loop-first.begins c.loop-first.ends c.loop-first.invariant.1.due c.args.at c.loop-first.first c.requires.at (c.loop-first.auto.ends ∙ c.requires.ends) c.loop-first.invariant.1.turning c.loop-first.invariant.2 c.loop-first-test.false
+    elsewhere_first c.args.plan.now c.requires.plan c.loop-first.begins c.loop-first.ends c.loop-first.invariant.1.due c.args.at c.loop-first.first
+    c.requires.at (c.loop-first.auto.ends ∙ c.requires.ends) c.loop-first.invariant.1.turning c.loop-first.invariant.2 c.loop-first-test.false
 
 pub returns-clause-fit : goal.returns-clause-fit
 returns-clause-fit c = c.loop-first.invariant.3

@@ -8,24 +8,29 @@ pub returns-clause-windows : goal.returns-clause-windows
 returns-clause-windows c =
     let long = c.requires.ends in
     let kept = c.turn_ended.auto.ends in
-    all_turned c.args.plan.now c.requires.plan c.turn_ended.new.begins c.turn_ended.new.ends c.turn_ended.ensures.turning.due c.args.at (omega (arith, long, kept)) c.turn_ended.ensures.turning.turning c.turn_ended.ensures.later
+    all_turned c.args.plan.now c.requires.plan c.turn_ended.new.begins c.turn_ended.new.ends c.turn_ended.ensures.turning.due c.args.at
+    (omega (arith, long, kept)) c.turn_ended.ensures.turning.turning c.turn_ended.ensures.later
 
 pub returns-clause-next : goal.returns-clause-next
 returns-clause-next c =
     let long = c.requires.ends in
     let kept = c.turn_ended.auto.ends in
-    let windows = all_turned c.args.plan.now c.requires.plan c.turn_ended.new.begins c.turn_ended.new.ends c.turn_ended.ensures.turning.due c.args.at (omega (arith, long, kept)) c.turn_ended.ensures.turning.turning c.turn_ended.ensures.later in
+    let windows = all_turned c.args.plan.now c.requires.plan c.turn_ended.new.begins c.turn_ended.new.ends c.turn_ended.ensures.turning.due c.args.at
+    (omega (arith, long, kept)) c.turn_ended.ensures.turning.turning c.turn_ended.ensures.later in
     first_end_is c.args.plan.now c.requires.plan c.turn_ended.new.begins c.turn_ended.new.ends c.args.at c.turn_ended.result.0 c.requires.at windows
-    (least_of_leaves c.args.plan.now c.requires.plan c.turn_ended.new.begins c.turn_ended.new.ends c.args.at (length c.args.plan.now.tree.nodes) c.turn_ended.result.0 refl (omega (arith, long, kept)) c.turn_ended.ensures.turning.turning.packs windows c.turn_ended.ensures.first)
+    (least_of_leaves c.args.plan.now c.requires.plan c.turn_ended.new.begins c.turn_ended.new.ends c.args.at (length c.args.plan.now.tree.nodes)
+    c.turn_ended.result.0 refl (omega (arith, long, kept)) c.turn_ended.ensures.turning.turning.packs windows c.turn_ended.ensures.first)
 
 pub returns-clause-due : goal.returns-clause-due
 returns-clause-due c =
     let long = c.requires.ends in
     let kept = c.turn_ended.auto.ends in
-    due_listed c.args.plan.now c.requires.plan c.turn_ended.new.begins c.turn_ended.new.ends _ c.args.at (omega (arith, long, kept)) c.turn_ended.ensures.turning c.turn_ended.ensures.later
+    due_listed c.args.plan.now c.requires.plan c.turn_ended.new.begins c.turn_ended.new.ends _ c.args.at (omega (arith, long, kept))
+    c.turn_ended.ensures.turning c.turn_ended.ensures.later
 
 pub turn_ended-requires-clause-turning : goal.turn_ended-requires-clause-turning
-turn_ended-requires-clause-turning c = turning_none c.args.plan.now c.requires.plan c.args.begins.now c.args.ends.now c.args.at c.requires.ready c.requires.packs c.requires.earlier
+turn_ended-requires-clause-turning c = turning_none c.args.plan.now c.requires.plan c.args.begins.now c.args.ends.now c.args.at c.requires.ready
+    c.requires.packs c.requires.earlier
 
 pub turn_ended-requires-clause-plan : goal.turn_ended-requires-clause-plan
 turn_ended-requires-clause-plan c = c.requires.plan

@@ -9,10 +9,15 @@ pub returns-then-ends-n-clause-kept : goal.returns-then-ends-n-clause-kept
 returns-then-ends-n-clause-kept c = λ member ne. absurd (ne (c.if-ends-n.true ∙ c.from.ensures))
 
 pub returns-then-ends-n-clause-others : goal.returns-then-ends-n-clause-others
-returns-then-ends-n-clause-others c = λ x ne. (other_at c.args.begins.now c.args.n.0 x c.args.at ne, other_at c.args.ends.now c.args.n.0 x c.from-then-ends-n.result ne)
+returns-then-ends-n-clause-others c = λ x ne. (
+  other_at c.args.begins.now c.args.n.0 x c.args.at ne,
+  other_at c.args.ends.now c.args.n.0 x
+      c.from-then-ends-n.result ne,
+)
 
 pub returns-then-ends-n-clause-packs : goal.returns-then-ends-n-clause-packs
-returns-then-ends-n-clause-packs c = λ pack. absurd (no_pack _ (sym c.if-is_member.true ∙ c.is_member.ensures ∙ ap (λ (t : Tree). not (is_pack (kind_at t c.args.n.0))) c.tree.ensures.value) pack)
+returns-then-ends-n-clause-packs c = λ pack. absurd (no_pack _ (sym c.if-is_member.true ∙ c.is_member.ensures
+    ∙ ap (λ (t : Tree). not (is_pack (kind_at t c.args.n.0))) c.tree.ensures.value) pack)
 
 pub returns-else-ends-n-clause-turned : goal.returns-else-ends-n-clause-turned
 returns-else-ends-n-clause-turned c = λ member at. absurd (c.if-ends-n.false (at ∙ sym c.from.ensures))
@@ -30,7 +35,8 @@ pub returns-else-ends-n-clause-fit : goal.returns-else-ends-n-clause-fit
 returns-else-ends-n-clause-fit c = λ fit. fit
 
 pub returns-else-is_member-clause-turned : goal.returns-else-is_member-clause-turned
-returns-else-is_member-clause-turned c = λ member at. absurd (no_member _ (sym c.if-is_member.false ∙ c.is_member.ensures ∙ ap (λ (t : Tree). not (is_pack (kind_at t c.args.n.0))) c.tree.ensures.value) member)
+returns-else-is_member-clause-turned c = λ member at. absurd (no_member _ (sym c.if-is_member.false ∙ c.is_member.ensures
+    ∙ ap (λ (t : Tree). not (is_pack (kind_at t c.args.n.0))) c.tree.ensures.value) member)
 
 pub returns-else-is_member-clause-kept : goal.returns-else-is_member-clause-kept
 returns-else-is_member-clause-kept c = λ member ne. (refl, refl)

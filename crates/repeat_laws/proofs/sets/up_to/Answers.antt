@@ -21,7 +21,8 @@ returns c =
     c.loop-task.invariant.2 ∙ take_all c.loop-task.task-index c.tasks-task-items.result.now c.loop-task-test.false ∙ c.tasks-task-items.ensures.value in
     let shaped : ℕ → ℕ → SetContents = λ m h. record { processors = m; horizon = h; tasks = again.tasks } in
     let filled : List declared.Task → SetContents = λ tasks. record { processors = set.processors; horizon = c.args.horizon; tasks = tasks } in
-    ap₂ shaped (c.loop-task.invariant.0 ∙ c.start-again.ensures.processors ∙ c.processors.ensures.value) (c.loop-task.invariant.1 ∙ c.start-again.ensures.horizon)
+    ap₂ shaped (c.loop-task.invariant.0 ∙ c.start-again.ensures.processors ∙ c.processors.ensures.value) (c.loop-task.invariant.1
+    ∙ c.start-again.ensures.horizon)
     ∙ ap filled same
 
 pub loop-task-preserved : goal.loop-task-preserved

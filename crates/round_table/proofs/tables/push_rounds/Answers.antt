@@ -33,13 +33,15 @@ pub push_round-requires-clause-whole : goal.push_round-requires-clause-whole
 push_round-requires-clause-whole c =
     let p = c.args.plan.now in
     let start = c.rounds.core.tick in
-    ap length c.advance.ensures.rows ∙ length-round p.set.tasks p.tree start c.advance.new.self.tick ∙ sym (length-lanes_of p.tree.processors (rows_before p start)) ∙ ap length (sym c.rounds.invariant.lanes)
+    ap length c.advance.ensures.rows ∙ length-round p.set.tasks p.tree start c.advance.new.self.tick ∙ sym (length-lanes_of p.tree.processors
+    (rows_before p start)) ∙ ap length (sym c.rounds.invariant.lanes)
 
 pub push_round-requires-clause-round : goal.push_round-requires-clause-round
 push_round-requires-clause-round c =
     let p = c.args.plan.now in
     let whole = is_round p c.rounds_end-end.ensures.lawful c.rounds.core.tick c.advance.new.self.tick c.advance.ensures.round in
-    subst (λ (n : ℕ). IsRound n c.advance.new.rows) (sym c.rounds.invariant.end) (subst (λ (rows : List Row). IsRound c.rounds.core.tick rows) (sym c.advance.ensures.rows) whole)
+    subst (λ (n : ℕ). IsRound n c.advance.new.rows) (sym c.rounds.invariant.end) (subst (λ (rows : List Row). IsRound c.rounds.core.tick rows)
+    (sym c.advance.ensures.rows) whole)
 
 pub push_round-requires-clause-room : goal.push_round-requires-clause-room
 push_round-requires-clause-room c =
@@ -97,7 +99,8 @@ at_end c =
     omega (arith, now, end, off, early)
 
 pub returns-clause-lanes : goal.returns-clause-lanes
-returns-clause-lanes c = c.rounds.invariant.lanes ∙ ap (λ n. lanes_of c.args.plan.now.tree.processors (rows_before c.args.plan.now n)) (at_end (goal.at.returns-clause-lanes c).After-rounds)
+returns-clause-lanes c = c.rounds.invariant.lanes ∙ ap (λ n. lanes_of c.args.plan.now.tree.processors (rows_before c.args.plan.now n))
+    (at_end (goal.at.returns-clause-lanes c).After-rounds)
 
 pub returns-clause-count : goal.returns-clause-count
 returns-clause-count c = c.rounds.invariant.count ∙ ap (rounds_before c.args.plan.now) (at_end (goal.at.returns-clause-count c).After-rounds)

@@ -53,7 +53,8 @@ pub push_rounds-requires-clause-room : goal.push_rounds-requires-clause-room
 push_rounds-requires-clause-room c = c.in_ok-table.ensures.room ∙ c.requires.rounds
 
 pub push_rounds-requires-clause-none : goal.push_rounds-requires-clause-none
-push_rounds-requires-clause-none c = c.in_ok-table.ensures.none ∙ ap (λ n. replicate n []) (c.processors.ensures.value ∙ ap (λ (t : Tree). t.processors) c.tree.ensures.value)
+push_rounds-requires-clause-none c = c.in_ok-table.ensures.none ∙ ap (λ n. replicate n []) (c.processors.ensures.value ∙ ap (λ (t : Tree). t.processors)
+    c.tree.ensures.value)
 
 pub returns-clause-lanes : goal.returns-clause-lanes
 returns-clause-lanes c = c.push_rounds.ensures.lanes

@@ -18,4 +18,5 @@ returns-in-Some-clause-valid c =
     let rows = c.args.rows.now in
     let hit : IsFirstHit processor_key rows (length rows) = hit_standing s rows c.requires.trace.each c.in-Some.ensures.stands in
     IfOk-weaker c.timed_findings.result _ _ (λ o h. if_some o _ _ (λ v t.
-    no_verdict s l rows (length rows) (length rows) (length rows) (length s.tasks) c.in-Some.ensures.fit hit t.apart (omega arith) (omega arith) (omega arith) t.supplied (omega arith)) h) c.timed_findings.ensures
+    no_verdict s l rows (length rows) (length rows) (length rows) (length s.tasks) c.in-Some.ensures.fit hit t.apart (omega arith) (omega arith)
+    (omega arith) t.supplied (omega arith)) h) c.timed_findings.ensures

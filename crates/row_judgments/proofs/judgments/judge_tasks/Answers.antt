@@ -16,13 +16,20 @@ starts_of-requires-clause-few c =
 
 pub returns-in-Some-clause-verdict : goal.returns-in-Some-clause-verdict
 returns-in-Some-clause-verdict c =
-    let found : IsSuppliedOrder c.args.set.now c.args.scale c.args.rows.now c.in-Some.order.places.items c.in-Some.order.starts.items = rw c.in-Some.is at c.in_ok-order.ensures.order in
+    let found : IsSuppliedOrder c.args.set.now c.args.scale c.args.rows.now c.in-Some.order.places.items c.in-Some.order.starts.items = rw c.in-Some.is at
+    c.in_ok-order.ensures.order in
     no_verdict c.args.set.now c.args.scale c.args.rows.now c.args.unfit c.args.hit (length c.args.rows.now) (length c.args.set.now.tasks)
-    c.requires.unfit c.requires.hit found.apart (omega (arith, c.if-min-len.true, c.min.ensures, c.len.ensures)) (omega (arith, c.if-min-len.true, c.min.ensures, c.len.ensures)) (omega arith) found.supplied (omega arith)
+    c.requires.unfit c.requires.hit found.apart (omega (arith, c.if-min-len.true, c.min.ensures, c.len.ensures)) (omega (
+      arith,
+      c.if-min-len.true,
+      c.min.ensures,
+      c.len.ensures,
+    )) (omega arith) found.supplied (omega arith)
 
 pub returns-in-Some-clause-order : goal.returns-in-Some-clause-order
 returns-in-Some-clause-order c =
-    let found : IsSuppliedOrder c.args.set.now c.args.scale c.args.rows.now c.in-Some.order.places.items c.in-Some.order.starts.items = rw c.in-Some.is at c.in_ok-order.ensures.order in
+    let found : IsSuppliedOrder c.args.set.now c.args.scale c.args.rows.now c.in-Some.order.places.items c.in-Some.order.starts.items = rw c.in-Some.is at
+    c.in_ok-order.ensures.order in
     found.order
 
 pub returns-in-Some-clause-found : goal.returns-in-Some-clause-found

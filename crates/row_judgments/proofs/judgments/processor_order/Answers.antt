@@ -14,7 +14,8 @@ returns-then-stand-clause-order c = (
 
 pub returns-then-stand-clause-hit : goal.returns-then-stand-clause-hit
 returns-then-stand-clause-hit c =
-    subst (IsFirstHit processor_key c.args.rows.now) (sym c.len.ensures) (hit_standing c.args.set.now c.args.rows.now c.requires.trace.each (sym c.stand.ensures ∙ c.if-stand.true))
+    subst (IsFirstHit processor_key c.args.rows.now) (sym c.len.ensures) (hit_standing c.args.set.now c.args.rows.now c.requires.trace.each
+    (sym c.stand.ensures ∙ c.if-stand.true))
 
 pub all_places-requires : goal.all_places-requires
 all_places-requires c = c.requires.trace.few

@@ -18,5 +18,7 @@ returns-clause-verdict c =
     let other : eqb (length rows) i ≡ false = ne_eqb _ _ (λ e. omega (arith, e, c.requires.within)) in
     row_verdict c.args.set.now c.args.scale rows c.args._unfit c.args.hit (length rows) i (6 + c.from.result + c.from-2.result) c.row_kind-kind.result
     c.requires.unfit c.requires.hit c.requires.apart a b d c.requires.within (omega arith) which
-    (subst (λ (r : Row). c.row_kind-kind.result ≡ kind_of (not (ltb r.processor c.args.set.now.processors)) (not (leb r.end most)) (eqb c.args.hit i) (eqb (length rows) i)) c.get.ensures
-    (c.row_kind-kind.ensures ∙ ap (kind_of (not (ltb c.get.result.processor c.args.set.now.processors)) (not (leb c.get.result.end most)) (eqb c.args.hit i)) (sym other)))
+    (subst (λ (r : Row). c.row_kind-kind.result ≡ kind_of (not (ltb r.processor c.args.set.now.processors)) (not (leb r.end most)) (eqb c.args.hit i)
+    (eqb (length rows) i)) c.get.ensures
+    (c.row_kind-kind.ensures ∙ ap (kind_of (not (ltb c.get.result.processor c.args.set.now.processors)) (not (leb c.get.result.end most))
+    (eqb c.args.hit i)) (sym other)))

@@ -25,7 +25,8 @@ returns-then-first-count c =
     row_verdict c.args.set.now c.args.scale c.args.rows.now c.args.unfit c.args.hit c.first_task_hit-task_hit.result i
     (6 + c.from.result + c.from-then-first-count.result) c.row_kind-kind.result
     c.requires.unfit c.requires.hit c.first_task_hit-task_hit.ensures a b d (omega arith) (omega arith) which
-    (subst (λ (r : Row). c.row_kind-kind.result ≡ kind_of (not (ltb r.processor c.args.set.now.processors)) (not (leb r.end (c.args.set.now.horizon * c.args.scale))) (eqb c.args.hit i) (eqb c.first_task_hit-task_hit.result i))
+    (subst (λ (r : Row). c.row_kind-kind.result ≡ kind_of (not (ltb r.processor c.args.set.now.processors))
+    (not (leb r.end (c.args.set.now.horizon * c.args.scale))) (eqb c.args.hit i) (eqb c.first_task_hit-task_hit.result i))
     c.get.ensures c.row_kind-kind.ensures)
 
 pub first_unsupplied-task-requires-clause-within : goal.first_unsupplied-task-requires-clause-within
@@ -42,7 +43,8 @@ pub returns-then-task-count : goal.returns-then-task-count
 returns-then-task-count c =
     total_verdict c.args.set.now c.args.scale c.args.rows.now c.args.unfit c.args.hit c.first_task_hit-task_hit.result c.first_unsupplied-task.result
     (6 + c.from-then-task-count.result + c.from-then-task-count-2.result + c.from-then-task-count-3.result)
-    c.requires.unfit c.requires.hit c.first_task_hit-task_hit.ensures (omega arith) (omega arith) (omega arith) c.first_unsupplied-task.ensures (omega arith) (omega arith)
+    c.requires.unfit c.requires.hit c.first_task_hit-task_hit.ensures (omega arith) (omega arith) (omega arith) c.first_unsupplied-task.ensures
+    (omega arith) (omega arith)
 
 pub returns : goal.returns
 returns c =

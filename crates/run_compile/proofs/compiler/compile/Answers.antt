@@ -24,11 +24,13 @@ returns-clause-set c = ap (λ (p : PlanContents). p.set) c.new.ensures
 
 pub returns-clause-scale : goal.returns-clause-scale
 returns-clause-scale c =
-    subst (λ (l : ℕ). HasScale c.args.set l) (sym (ap (λ (p : PlanContents). p.tree.scale) c.new.ensures ∙ c.in_ok-tree.ensures.scale)) c.in_ok-load.ensures.load.scale
+    subst (λ (l : ℕ). HasScale c.args.set l) (sym (ap (λ (p : PlanContents). p.tree.scale) c.new.ensures ∙ c.in_ok-tree.ensures.scale))
+    c.in_ok-load.ensures.load.scale
 
 pub returns-clause-fits : goal.returns-clause-fits
 returns-clause-fits c =
-    subst (λ (l : ℕ). Fits l c.args.set) (sym (ap (λ (p : PlanContents). p.tree.scale) c.new.ensures ∙ c.in_ok-tree.ensures.scale)) c.in_ok-load.ensures.load.fits
+    subst (λ (l : ℕ). Fits l c.args.set) (sym (ap (λ (p : PlanContents). p.tree.scale) c.new.ensures ∙ c.in_ok-tree.ensures.scale))
+    c.in_ok-load.ensures.load.fits
 
 pub returns-clause-tree : goal.returns-clause-tree
 returns-clause-tree c =

@@ -9,7 +9,8 @@ use Rattle.run_compile.proofs.compiler.set_tree.Goals as goal
 
 pub tree_of-requires : goal.tree_of-requires
 tree_of-requires c = record {
-  fit = set_rates_fit c.args.set.now c.args.scale c.processors.result c.as_slice.result.now c.processors.ensures.lawful c.requires.scale.is c.requires.fits c.processors.ensures.value (c.as_slice.ensures.value ∙ c.in_ok-each.ensures.value);
+  fit = set_rates_fit c.args.set.now c.args.scale c.processors.result c.as_slice.result.now c.processors.ensures.lawful c.requires.scale.is c.requires.fits
+      c.processors.ensures.value (c.as_slice.ensures.value ∙ c.in_ok-each.ensures.value);
   few_processors = search rules;
   scale_fits = c.requires.scale.within;
   few_tasks = omega (arith, simp length-map at (ap length (c.as_slice.ensures.value ∙ c.in_ok-each.ensures.value)), c.processors.ensures.lawful.few_tasks);
@@ -17,18 +18,23 @@ tree_of-requires c = record {
 
 pub returns-clause-tree : goal.returns-clause-tree
 returns-clause-tree c =
-    IfOk-weaker c.tree_of.result (λ (tree : Tree). tree ≡ tree_of_rates c.processors.result c.args.scale c.as_slice.result.now) (λ (tree : Tree). tree ≡ tree_of c.args.scale c.args.set.now)
-    (tree_made c.args.set.now c.args.scale c.processors.result c.as_slice.result.now c.processors.ensures.lawful c.requires.scale.is c.requires.fits c.processors.ensures.value (c.as_slice.ensures.value ∙ c.in_ok-each.ensures.value)) c.tree_of.ensures
+    IfOk-weaker c.tree_of.result (λ (tree : Tree). tree ≡ tree_of_rates c.processors.result c.args.scale c.as_slice.result.now)
+    (λ (tree : Tree). tree ≡ tree_of c.args.scale c.args.set.now)
+    (tree_made c.args.set.now c.args.scale c.processors.result c.as_slice.result.now c.processors.ensures.lawful c.requires.scale.is c.requires.fits
+    c.processors.ensures.value (c.as_slice.ensures.value ∙ c.in_ok-each.ensures.value)) c.tree_of.ensures
 
 pub returns-clause-scale : goal.returns-clause-scale
 returns-clause-scale c =
-    IfOk-weaker c.tree_of.result (λ (tree : Tree). tree ≡ tree_of_rates c.processors.result c.args.scale c.as_slice.result.now) (λ (tree : Tree). tree.scale ≡ c.args.scale)
-    (made_scale c.args.set.now c.args.scale c.processors.result c.as_slice.result.now c.processors.ensures.lawful c.requires.scale.is c.requires.fits c.processors.ensures.value (c.as_slice.ensures.value ∙ c.in_ok-each.ensures.value)) c.tree_of.ensures
+    IfOk-weaker c.tree_of.result (λ (tree : Tree). tree ≡ tree_of_rates c.processors.result c.args.scale c.as_slice.result.now)
+    (λ (tree : Tree). tree.scale ≡ c.args.scale)
+    (made_scale c.args.set.now c.args.scale c.processors.result c.as_slice.result.now c.processors.ensures.lawful c.requires.scale.is c.requires.fits
+    c.processors.ensures.value (c.as_slice.ensures.value ∙ c.in_ok-each.ensures.value)) c.tree_of.ensures
 
 pub returns-clause-of_set : goal.returns-clause-of_set
 returns-clause-of_set c =
     IfOk-weaker c.tree_of.result (λ (tree : Tree). tree ≡ tree_of_rates c.processors.result c.args.scale c.as_slice.result.now) (IsTreeOf c.args.set.now)
-    (made_tree c.args.set.now c.args.scale c.processors.result c.as_slice.result.now c.processors.ensures.lawful c.requires.scale.is c.requires.fits c.processors.ensures.value (c.as_slice.ensures.value ∙ c.in_ok-each.ensures.value)) c.tree_of.ensures
+    (made_tree c.args.set.now c.args.scale c.processors.result c.as_slice.result.now c.processors.ensures.lawful c.requires.scale.is c.requires.fits
+    c.processors.ensures.value (c.as_slice.ensures.value ∙ c.in_ok-each.ensures.value)) c.tree_of.ensures
 
 pub rates_of-requires-clause-scale : goal.rates_of-requires-clause-scale
 rates_of-requires-clause-scale c = c.requires.scale.is

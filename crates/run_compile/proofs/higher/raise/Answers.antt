@@ -16,7 +16,8 @@ duals-requires c = lower_range c.args.maker.now c.args.scale c.args.lower.now c.
 
 pub first_fit-requires-clause-each : goal.first_fit-requires-clause-each
 first_fit-requires-clause-each c =
-    duals_range c.args.scale c.args.lower.now c.as_slice.result.now (c.as_slice.ensures ∙ c.in_ok-duals.ensures) (lower_range c.args.maker.now c.args.scale c.args.lower.now c.requires.scale c.requires.lower c.requires.positive)
+    duals_range c.args.scale c.args.lower.now c.as_slice.result.now (c.as_slice.ensures ∙ c.in_ok-duals.ensures) (lower_range c.args.maker.now c.args.scale
+    c.args.lower.now c.requires.scale c.requires.lower c.requires.positive)
 
 pub lift-requires-clause-homes : goal.lift-requires-clause-homes
 lift-requires-clause-homes c =
@@ -53,10 +54,12 @@ first_fit-requires-clause-few c =
     omega (arith, long, c.requires.few)
 
 pub homes_of-requires-clause-rates : goal.homes_of-requires-clause-rates
-homes_of-requires-clause-rates c = c.in_ok-packing.ensures.rates ∙ ap₂ packed (sym c.in_ok-packing.ensures.scale) (c.as_slice.ensures ∙ sym c.as_slice-2.ensures)
+homes_of-requires-clause-rates c = c.in_ok-packing.ensures.rates ∙ ap₂ packed (sym c.in_ok-packing.ensures.scale) (c.as_slice.ensures
+    ∙ sym c.as_slice-2.ensures)
 
 pub homes_of-requires-clause-members : goal.homes_of-requires-clause-members
-homes_of-requires-clause-members c = λ b. c.in_ok-packing.ensures.members b ∙ ap₂ (λ l rs. items_of (homes l rs) b) (sym c.in_ok-packing.ensures.scale) (c.as_slice.ensures ∙ sym c.as_slice-2.ensures)
+homes_of-requires-clause-members c = λ b. c.in_ok-packing.ensures.members b ∙ ap₂ (λ l rs. items_of (homes l rs) b) (sym c.in_ok-packing.ensures.scale)
+    (c.as_slice.ensures ∙ sym c.as_slice-2.ensures)
 
 pub lift-requires-clause-few_levels : goal.lift-requires-clause-few_levels
 lift-requires-clause-few_levels c = c.requires.few_levels

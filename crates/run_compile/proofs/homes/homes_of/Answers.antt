@@ -10,7 +10,8 @@ write_homes-requires-clause-inside c = λ s. (
     let told = homes c.args.packing.now.scale c.args.rates.now in
     let long = homes_long c.args.packing.now.scale c.args.rates.now in
     let len = c.in_ok-told.ensures.len in
-    All-from_get_or (λ x. x < length c.deref_mut.result.now) _ 0 (λ i l. (let b = told_inside c.args.packing.now.servers told c.requires.members s i l in omega (arith, b, long, len))))
+    All-from_get_or (λ x. x < length c.deref_mut.result.now) _ 0 (λ i l. (let b = told_inside c.args.packing.now.servers told c.requires.members s i l in
+    omega (arith, b, long, len))))
 
 pub write_homes-requires-clause-apart : goal.write_homes-requires-clause-apart
 write_homes-requires-clause-apart c = told_apart c.args.packing.now.servers (homes c.args.packing.now.scale c.args.rates.now) c.requires.members
@@ -21,6 +22,8 @@ returns c =
     let long = homes_long c.args.packing.now.scale c.args.rates.now in
     let len = c.in_ok-told.ensures.len in
     let same : length c.write_homes.new.homes ≡ length told = omega (arith, long, len) in
-    let is = all_told c.args.packing.now.servers told c.write_homes.new.homes c.requires.members (homes_below c.args.packing.now.scale c.args.rates.now c.args.packing.now.servers c.requires.rates) same c.write_homes.ensures in
+    let is = all_told c.args.packing.now.servers told c.write_homes.new.homes c.requires.members (homes_below c.args.packing.now.scale c.args.rates.now
+    c.args.packing.now.servers c.requires.rates) same c.write_homes.ensures in
     let e : c.in_ok-told.told.len ≡ length c.write_homes.new.homes = omega (arith, len) in
-    ap (λ n. take n (c.write_homes.new.homes ++ drop (length c.write_homes.new.homes) c.in_ok-told.told.items)) e ∙ take-append_seam c.write_homes.new.homes _ ∙ is
+    ap (λ n. take n (c.write_homes.new.homes ++ drop (length c.write_homes.new.homes) c.in_ok-told.told.items)) e ∙ take-append_seam c.write_homes.new.homes
+    _ ∙ is

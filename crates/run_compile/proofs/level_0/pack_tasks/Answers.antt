@@ -15,28 +15,34 @@ bounds-told-j c =
 
 pub leaf-requires-clause-first_level : goal.leaf-requires-clause-first_level
 leaf-requires-clause-first_level c =
-    (task_asks c.args.rates.processors c.args.rates.scale c.args.rates.each.now c.args.told.now c.requires.of_set.fit c.requires.homes c.loop-j.maker c.loop-j.j c.loop-j.invariant (omega arith)).first_level
+    (task_asks c.args.rates.processors c.args.rates.scale c.args.rates.each.now c.args.told.now c.requires.of_set.fit c.requires.homes c.loop-j.maker
+    c.loop-j.j c.loop-j.invariant (omega arith)).first_level
 
 pub leaf-requires-clause-few : goal.leaf-requires-clause-few
 leaf-requires-clause-few c =
-    let count = task_count c.args.rates.processors c.args.rates.scale c.args.rates.each.now c.args.told.now c.requires.of_set.fit c.requires.homes c.loop-j.maker c.loop-j.j c.loop-j.invariant (omega arith) in
+    let count = task_count c.args.rates.processors c.args.rates.scale c.args.rates.each.now c.args.told.now c.requires.of_set.fit c.requires.homes
+    c.loop-j.maker c.loop-j.j c.loop-j.invariant (omega arith) in
     omega (arith, count)
 
 pub leaf-requires-clause-pack : goal.leaf-requires-clause-pack
 leaf-requires-clause-pack c =
-    (task_asks c.args.rates.processors c.args.rates.scale c.args.rates.each.now c.args.told.now c.requires.of_set.fit c.requires.homes c.loop-j.maker c.loop-j.j c.loop-j.invariant (omega arith)).pack
+    (task_asks c.args.rates.processors c.args.rates.scale c.args.rates.each.now c.args.told.now c.requires.of_set.fit c.requires.homes c.loop-j.maker
+    c.loop-j.j c.loop-j.invariant (omega arith)).pack
 
 pub leaf-requires-clause-rate_fits : goal.leaf-requires-clause-rate_fits
 leaf-requires-clause-rate_fits c =
-    (task_asks c.args.rates.processors c.args.rates.scale c.args.rates.each.now c.args.told.now c.requires.of_set.fit c.requires.homes c.loop-j.maker c.loop-j.j c.loop-j.invariant (omega arith)).rate_fits
+    (task_asks c.args.rates.processors c.args.rates.scale c.args.rates.each.now c.args.told.now c.requires.of_set.fit c.requires.homes c.loop-j.maker
+    c.loop-j.j c.loop-j.invariant (omega arith)).rate_fits
 
 pub leaf-requires-clause-within : goal.leaf-requires-clause-within
 leaf-requires-clause-within c =
-    (task_asks c.args.rates.processors c.args.rates.scale c.args.rates.each.now c.args.told.now c.requires.of_set.fit c.requires.homes c.loop-j.maker c.loop-j.j c.loop-j.invariant (omega arith)).within
+    (task_asks c.args.rates.processors c.args.rates.scale c.args.rates.each.now c.args.told.now c.requires.of_set.fit c.requires.homes c.loop-j.maker
+    c.loop-j.j c.loop-j.invariant (omega arith)).within
 
 pub loop-j-preserved : goal.loop-j-preserved
 loop-j-preserved c =
-    c.in_ok-leaf.ensures.ok ∙ task_put c.args.rates.processors c.args.rates.scale c.args.rates.each.now c.args.told.now c.requires.of_set.fit c.requires.homes c.loop-j.maker c.loop-j.j c.loop-j.invariant (omega arith)
+    c.in_ok-leaf.ensures.ok ∙ task_put c.args.rates.processors c.args.rates.scale c.args.rates.each.now c.args.told.now c.requires.of_set.fit
+    c.requires.homes c.loop-j.maker c.loop-j.j c.loop-j.invariant (omega arith)
 
 pub start-maker-requires-clause-some_processors : goal.start-maker-requires-clause-some_processors
 start-maker-requires-clause-some_processors c = c.requires.of_set.fit.some_processors
@@ -58,9 +64,11 @@ returns-in_err-leaf c = IfOk-from_err _ _ c.from_residual.ensures.0
 
 pub leaf-requires-clause-some_rate : goal.leaf-requires-clause-some_rate
 leaf-requires-clause-some_rate c =
-    (task_asks c.args.rates.processors c.args.rates.scale c.args.rates.each.now c.args.told.now c.requires.of_set.fit c.requires.homes c.loop-j.maker c.loop-j.j c.loop-j.invariant (omega arith)).some_rate
+    (task_asks c.args.rates.processors c.args.rates.scale c.args.rates.each.now c.args.told.now c.requires.of_set.fit c.requires.homes c.loop-j.maker
+    c.loop-j.j c.loop-j.invariant (omega arith)).some_rate
 
 pub returns : goal.returns
 returns c =
     let off = c.loop-j-test.false in
-    c.loop-j.invariant ∙ ap (λ rs. pack_items (task_items 0 rs) (started c.args.rates.processors c.args.rates.scale)) (take_all c.loop-j.j c.args.rates.each.now (omega (arith, off)))
+    c.loop-j.invariant ∙ ap (λ rs. pack_items (task_items 0 rs) (started c.args.rates.processors c.args.rates.scale))
+    (take_all c.loop-j.j c.args.rates.each.now (omega (arith, off)))

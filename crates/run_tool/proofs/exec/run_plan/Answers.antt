@@ -3,7 +3,8 @@ use Rattle.sched_base.specs.Sets.{SetContents}
 use Rattle.sched_base.specs.Lanes.{NamesOneOf}
 use Rattle.exec_lanes.proofs.ErrorLemmas.{untrue}
 use Rattle.run_tool.specs.Executions.{name_at}
-use Rattle.run_tool.proofs.CrewEndLemmas.{kits_filled, kit_empty, jobs_fresh, few_rows, back_by, all_by, rows_by, totals_by, left_by, gate_by, gate_named, job_by, job_named}
+use Rattle.run_tool.proofs.CrewEndLemmas.{kits_filled, kit_empty, jobs_fresh, few_rows, back_by, all_by, rows_by, totals_by, left_by, gate_by}
+use Rattle.run_tool.proofs.CrewEndLemmas.{gate_named, job_by, job_named}
 use Rattle.run_tool.proofs.exec.run_plan.Goals as goal
 
 pub execute-requires-clause-kits : goal.execute-requires-clause-kits
@@ -90,4 +91,5 @@ returns-in-Err-Job-clause-uncalled g c = λ quiet. untrue (sym quiet)
 pub returns-in-Err-NoMemory-clause-uncalled : goal.returns-in-Err-NoMemory-clause-uncalled
 returns-in-Err-NoMemory-clause-uncalled g c = λ quiet.
     left_by _ _ _ _ _ _ c.args.plan.now c.args.window _ _ _ _ c.know_lawful.ensures.lawful c.requires.ready
-    (c.table_law.ensures.lanes c.args.plan.now c.know_lawful.ensures.lawful) c.execute.result c.execute.ensures.outcome (c.in-Err-NoMemory.is ∙ ap Err c.in-Err-NoMemory.field-0-is)
+    (c.table_law.ensures.lanes c.args.plan.now c.know_lawful.ensures.lawful) c.execute.result c.execute.ensures.outcome (c.in-Err-NoMemory.is
+    ∙ ap Err c.in-Err-NoMemory.field-0-is)

@@ -50,7 +50,8 @@ pub returns-in_err-text-in-Jobs : goal.returns-in_err-text-in-Jobs
 returns-in_err-text-in-Jobs g c =
     let old = streams_of g.R.Source g.W.Sink c.args.source.now c.args.out.now in
     let new = streams_of g.R.Source g.W.Sink c.read_job_input.new.source c.args.out.now in
-    ends_as _ c.args.execution Jobs c.in-Jobs.is _ _ _ _ _ (stops_first _ _ c.from_residual.ensures.1 (jobs_unread old new _ _ _ c.in_err-text-in-Jobs.ensures.refusal (keeps_same _) refl))
+    ends_as _ c.args.execution Jobs c.in-Jobs.is _ _ _ _ _ (stops_first _ _ c.from_residual.ensures.1 (jobs_unread old new _ _ _
+    c.in_err-text-in-Jobs.ensures.refusal (keeps_same _) refl))
 
 pub returns-in_err-plan-in-Jobs : goal.returns-in_err-plan-in-Jobs
 returns-in_err-plan-in-Jobs g c =
@@ -84,7 +85,8 @@ pub returns-in_err-modes-in-Modes : goal.returns-in_err-modes-in-Modes
 returns-in_err-modes-in-Modes g c =
     let old = streams_of g.R.Source g.W.Sink c.args.source.now c.args.out.now in
     let new = streams_of g.R.Source g.W.Sink c.read_modes.new.source c.args.out.now in
-    ends_as _ c.args.execution Modes c.in-Modes.is _ _ _ _ _ (stops_first _ _ c.from_residual-in_err-modes-in-Modes.ensures.1 (modes_unread old new _ _ _ c.in_err-modes-in-Modes.ensures.refusal (keeps_same _) refl))
+    ends_as _ c.args.execution Modes c.in-Modes.is _ _ _ _ _ (stops_first _ _ c.from_residual-in_err-modes-in-Modes.ensures.1 (modes_unread old new _ _ _
+    c.in_err-modes-in-Modes.ensures.refusal (keeps_same _) refl))
 
 pub returns-in_err-run-in-Modes : goal.returns-in_err-run-in-Modes
 returns-in_err-run-in-Modes g c =
@@ -101,7 +103,8 @@ pub returns-in_ok-run-in-Modes : goal.returns-in_ok-run-in-Modes
 returns-in_ok-run-in-Modes g c =
     let old = streams_of g.R.Source g.W.Sink c.args.source.now c.args.out.now in
     let new = streams_of g.R.Source g.W.Sink c.read_modes.new.source c.write_modes.new.out in
-    ends_as _ c.args.execution Modes c.in-Modes.is _ _ _ _ _ (ends_written c.write_modes.result c.written.result _ _ _ c.written.ensures c.write_modes.ensures.wrote.ok c.write_modes.ensures.wrote.err
+    ends_as _ c.args.execution Modes c.in-Modes.is _ _ _ _ _ (ends_written c.write_modes.result c.written.result _ _ _ c.written.ensures
+    c.write_modes.ensures.wrote.ok c.write_modes.ensures.wrote.err
     c.write_modes.ensures.cause.failed refl
     (modes_done old new _ _ c.in_ok-modes-in-Modes.modes c.in_ok-modes-in-Modes.ensures.read c.in_ok-run-in-Modes.ensures.ran)
     (modes_unwritten old new _ _ c.in_ok-modes-in-Modes.modes c.in_ok-modes-in-Modes.ensures.read c.in_ok-run-in-Modes.ensures.ran) c.run_all.ensures.back)

@@ -6,4 +6,5 @@ use Rattle.run_tree.proofs.TaskEnds.{idle_end}
 use Rattle.run_tree.proofs.boundaries.leaf_end.Goals as goal
 
 pub returns-in-Idle : goal.returns-in-Idle
-returns-in-Idle c = idle_end c.args.set.now.tasks c.in-Idle.field-0 c.args.after c.requires.after ∙ ap (λ (l : Leaf). window_end (set_boundary c.args.set.now.tasks l) c.args.after) (sym c.in-Idle.is)
+returns-in-Idle c = idle_end c.args.set.now.tasks c.in-Idle.field-0 c.args.after c.requires.after
+    ∙ ap (λ (l : Leaf). window_end (set_boundary c.args.set.now.tasks l) c.args.after) (sym c.in-Idle.is)

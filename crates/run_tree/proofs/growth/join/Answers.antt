@@ -18,13 +18,16 @@ pub returns-in_err-join-clause-ok : goal.returns-in_err-join-clause-ok
 returns-in_err-join-clause-ok c = IfOk-from_err _ _ c.from_residual-in_err-join.ensures.0
 
 pub overflow_cast-number : goal.overflow_cast-number
-overflow_cast-number c = let seen = c.len.ensures in let kept = c.in_ok-reserve.ensures.len in let long = c.args.nodes.now.ok.0 in let fit = c.requires.numbers_fit in omega (arith, seen, kept, long, fit)
+overflow_cast-number c = let seen = c.len.ensures in let kept = c.in_ok-reserve.ensures.len in let long = c.args.nodes.now.ok.0 in
+    let fit = c.requires.numbers_fit in omega (arith, seen, kept, long, fit)
 
 pub overflow_add-number : goal.overflow_add-number
-overflow_add-number c = let seen = c.len.ensures in let kept = c.in_ok-reserve.ensures.len in let long = c.args.nodes.now.ok.0 in let fit = c.requires.numbers_fit in omega (arith, seen, kept, long, fit)
+overflow_add-number c = let seen = c.len.ensures in let kept = c.in_ok-reserve.ensures.len in let long = c.args.nodes.now.ok.0 in
+    let fit = c.requires.numbers_fit in omega (arith, seen, kept, long, fit)
 
 pub index_mut-pack-requires : goal.index_mut-pack-requires
-index_mut-pack-requires c = let kept = c.in_ok-reserve.ensures.len in let long = c.args.nodes.now.ok.0 in let pack = c.requires.pack in omega (arith, kept, long, pack)
+index_mut-pack-requires c = let kept = c.in_ok-reserve.ensures.len in let long = c.args.nodes.now.ok.0 in let pack = c.requires.pack in
+    omega (arith, kept, long, pack)
 
 pub join-requires : goal.join-requires
 join-requires c =
@@ -43,7 +46,8 @@ overflow_cast-members c =
 
 pub returns-in_err-join-clause-err : goal.returns-in_err-join-clause-err
 returns-in_err-join-clause-err c = MatchResult-from_err _ _ _ c.from_residual-in_err-join.ensures.0
-    (λ _. ap (set c.reserve.new.self.items c.args.place) (c.in_err-join.ensures.err ∙ c.index_mut-pack.ensures.value) ∙ set-get_or c.reserve.new.self.items c.args.place _ ∙ c.in_ok-reserve.ensures.items)
+    (λ _. ap (set c.reserve.new.self.items c.args.place) (c.in_err-join.ensures.err ∙ c.index_mut-pack.ensures.value) ∙ set-get_or c.reserve.new.self.items
+    c.args.place _ ∙ c.in_ok-reserve.ensures.items)
 
 pub overflow_cast-head : goal.overflow_cast-head
 overflow_cast-head c = let fit = c.requires.numbers_fit in let pack = c.requires.pack in omega (arith, fit, pack)
@@ -60,4 +64,5 @@ returns-clause-ok c =
     let pack = read_node _ c.args.place _ within c.index_mut-pack.ensures.value ∙ ap (λ xs. node_in xs c.args.place) c.in_ok-reserve.ensures.items in
     let number = ap (λ n. c.args.base + n) (c.len.ensures ∙ c.in_ok-reserve.ensures.len ∙ c.args.nodes.now.ok.0) in
     member_joined c.args.base c.args.place c.args.next.rate _ _ c.args.next.kind c.args.nodes.now.items _ _ _ _ _ c.in_ok-reserve.ensures.items pack number
-    (sym (length-map c.members.result.now (λ (n : NodeId). n.0)) ∙ ap length c.members.ensures) c.in_ok-join.ensures.ok c.member.ensures c.push_reserved.ensures.items
+    (sym (length-map c.members.result.now (λ (n : NodeId). n.0)) ∙ ap length c.members.ensures) c.in_ok-join.ensures.ok c.member.ensures
+    c.push_reserved.ensures.items

@@ -30,4 +30,5 @@ pub returns-in_err-push : goal.returns-in_err-push
 returns-in_err-push c = IfOk-from_err _ _ c.from_residual.ensures.0
 
 pub returns : goal.returns
-returns c = let is_lower : ℕ → Bool = λ p. nat_lt (node_in c.args.nodes.now p).rate c.args.scale in c.loop-pack.invariant ∙ ap (filter is_lower) (take_all c.loop-pack.pack-index c.args.packs.now c.loop-pack-test.false)
+returns c = let is_lower : ℕ → Bool = λ p. nat_lt (node_in c.args.nodes.now p).rate c.args.scale in c.loop-pack.invariant ∙ ap (filter is_lower)
+    (take_all c.loop-pack.pack-index c.args.packs.now c.loop-pack-test.false)

@@ -8,7 +8,8 @@ loop-place-preserved c =
     let order = c.args.order.now in
     let place = get_or order c.loop-place.place-index 0 in
     let at = get_or_default order c.loop-place.place-index 0 place c.loop-place-test.true in
-    mapped_more (λ (i : ℕ). get_or c.args.packs.now i 0) order c.loop-place.place-index place _ _ _ c.loop-place-test.true at c.loop-place.invariant c.in_ok-push.ensures.items refl
+    mapped_more (λ (i : ℕ). get_or c.args.packs.now i 0) order c.loop-place.place-index place _ _ _ c.loop-place-test.true at c.loop-place.invariant
+    c.in_ok-push.ensures.items refl
 
 pub returns : goal.returns
 returns c = mapped_all (λ (i : ℕ). get_or c.args.packs.now i 0) c.args.order.now c.loop-place.place-index _ c.loop-place-test.false c.loop-place.invariant

@@ -19,7 +19,8 @@ returns-in_err-read_rest-clause-too_long g c =
 pub returns-in_err-read_rest-clause-exceeds : goal.returns-in_err-read_rest-clause-exceeds
 returns-in_err-read_rest-clause-exceeds g c =
     let (fault, is, same) = err_from_is_err_and c.from_residual-in_err-read_rest.result c.from_residual-in_err-read_rest.ensures.1 in
-    λ count long. holds_more_than (g.R.Source.left c.args.source.now) (g.R.Source.left c.read_rest.new.source) c.args.limit count (c.in_err-read_rest.ensures.too_long count (handed_on is same long))
+    λ count long. holds_more_than (g.R.Source.left c.args.source.now) (g.R.Source.left c.read_rest.new.source) c.args.limit count
+    (c.in_err-read_rest.ensures.too_long count (handed_on is same long))
 
 pub returns-in_err-read_rest-clause-bounded : goal.returns-in_err-read_rest-clause-bounded
 returns-in_err-read_rest-clause-bounded g c =
@@ -43,7 +44,8 @@ pub returns-clause-all : goal.returns-clause-all
 returns-clause-all g c = c.in_ok-read_rest.ensures.all
 
 pub returns-clause-fits : goal.returns-clause-fits
-returns-clause-fits g c = holds_what_it_gave (g.R.Source.left c.args.source.now) (g.R.Source.left c.read_rest.new.source) c.args.limit _ c.in_ok-read_rest.ensures.all
+returns-clause-fits g c = holds_what_it_gave (g.R.Source.left c.args.source.now) (g.R.Source.left c.read_rest.new.source) c.args.limit _
+    c.in_ok-read_rest.ensures.all
 
 pub returns-clause-too_long : goal.returns-clause-too_long
 returns-clause-too_long g c = λ count is. absurd (ok_is_no_fault is)

@@ -37,7 +37,8 @@ returns-in_err-count-clause-read g c =
 pub returns-then-count-eq0-clause-all : goal.returns-then-count-eq0-clause-all
 returns-then-count-eq0-clause-all g c =
     let (more, counted, grows, gave) = c.in_ok-count.ensures.grows in
-    gave_all _ _ _ _ more _ _ _ c.loop-count.invariant.1 gave grows counted (c.in_ok-count.ensures.end c.if-count-eq0.true) c.if-count-eq0.true c.loop-count.invariant.0
+    gave_all _ _ _ _ more _ _ _ c.loop-count.invariant.1 gave grows counted (c.in_ok-count.ensures.end c.if-count-eq0.true) c.if-count-eq0.true
+    c.loop-count.invariant.0
 
 pub returns-then-count-eq0-clause-too_long : goal.returns-then-count-eq0-clause-too_long
 returns-then-count-eq0-clause-too_long g c = λ count is. absurd (ok_is_no_fault is)
@@ -55,7 +56,8 @@ pub returns-then-len-limit-clause-too_long : goal.returns-then-len-limit-clause-
 returns-then-len-limit-clause-too_long g c =
     let (more, counted, grows, gave) = c.in_ok-count.ensures.grows in
     let within : length c.loop-count.bytes.items + length more ≤ c.args.limit + 1 = omega (arith, length-take {A = ℕ}, c.in_ok-count.ensures.count, counted) in
-    λ count is. gave_count _ _ _ _ more _ _ count c.loop-count.invariant.1 gave grows (let same = same_count is in omega arith) (let same = same_count is in omega arith) within
+    λ count is. gave_count _ _ _ _ more _ _ count c.loop-count.invariant.1 gave grows (let same = same_count is in omega arith) (let same = same_count is in
+    omega arith) within
 
 pub returns-then-len-limit-clause-bounded : goal.returns-then-len-limit-clause-bounded
 returns-then-len-limit-clause-bounded g c =

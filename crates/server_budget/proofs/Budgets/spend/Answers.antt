@@ -16,7 +16,8 @@ pub invariant_of-self : goal.invariant_of-self
 invariant_of-self c =
     let P : List ℕ → Type 0 = λ xs. (x : ℕ) → get_or xs x 0 ≤ 2 ^ 127 in
     let here = written c.self.inside.remains c.spend_all.new.remains (c.spend_all.auto.remains ∙ ap (λ (xs : List ℕ). length xs) c.deref_mut.ensures.value) in
-    subst P (sym here) (spent_fits c.args.tree.now c.args.runs.now c.args.ticks _ _ (length c.args.tree.now.nodes) c.spend_all.ensures (subst P (sym c.deref_mut.ensures.value) c.self.invariant))
+    subst P (sym here) (spent_fits c.args.tree.now c.args.runs.now c.args.ticks _ _ (length c.args.tree.now.nodes) c.spend_all.ensures
+    (subst P (sym c.deref_mut.ensures.value) c.self.invariant))
 
 pub returns-clause-nodes : goal.returns-clause-nodes
 returns-clause-nodes c =

@@ -9,4 +9,5 @@ returns-clause-ahead c =
     given_ahead c.args.tick c.args.runs.now c.args.marks.now c.args.n c.mark_of.result c.requires.ahead (omega (arith, b, long)) c.mark_of.ensures.ahead
 
 pub returns-clause-remains : goal.returns-clause-remains
-returns-clause-remains c = remains_given c.args.tick c.args.runs.now c.args.marks.now c.args.n c.mark_of.result c.args.due c.requires.ahead.long c.mark_of.ensures.due
+returns-clause-remains c = remains_given c.args.tick c.args.runs.now c.args.marks.now c.args.n c.mark_of.result c.args.due c.requires.ahead.long
+    c.mark_of.ensures.due

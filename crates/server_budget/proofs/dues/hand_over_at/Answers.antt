@@ -6,7 +6,8 @@ pub start_at-requires-clause-ahead : goal.start_at-requires-clause-ahead
 start_at-requires-clause-ahead c = c.stop_at.ensures.ahead
 
 pub start_at-requires-clause-rests : goal.start_at-requires-clause-rests
-start_at-requires-clause-rests c = ap (λ (rs : List Bool). get_or rs c.args.after false) c.stop_at.ensures.runs ∙ still_rests c.args.runs.now c.args.before c.args.after c.requires.runs c.requires.rests
+start_at-requires-clause-rests c = ap (λ (rs : List Bool). get_or rs c.args.after false) c.stop_at.ensures.runs ∙ still_rests c.args.runs.now c.args.before
+    c.args.after c.requires.runs c.requires.rests
 
 pub start_at-requires-clause-fits : goal.start_at-requires-clause-fits
 start_at-requires-clause-fits c =

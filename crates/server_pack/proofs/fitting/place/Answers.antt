@@ -10,7 +10,8 @@ returns-then-home-len c =
     let home = c.first_room-home.ensures ∙ ap (λ xs. first_with_room c.args.scale c.args.rate (rates_of xs)) c.deref.ensures.value in
     let l : c.first_room-home.result < length c.args.servers.now.items = omega arith in
     on_ok_weaker _ (λ made.
-    put_in-joined c.args.rate c.args.item c.first_room-home.result c.args.servers.now.items c.index_mut.result.now c.join.new.server l c.index_mut.ensures.value made
+    put_in-joined c.args.rate c.args.item c.first_room-home.result c.args.servers.now.items c.index_mut.result.now c.join.new.server l
+    c.index_mut.ensures.value made
     ∙ ap (λ b. put_in c.args.rate c.args.item b c.args.servers.now.items) home) c.join.ensures.ok
 
 pub returns-else-home-len : goal.returns-else-home-len

@@ -16,7 +16,8 @@ add_row-requires-clause-long c = c.loop-i.auto.sums ∙ c.requires.long
 
 pub add_row-requires-clause-among : goal.add_row-requires-clause-among
 add_row-requires-clause-among c =
-    AllByRecursion-get (λ r. IsAmong (length c.args.tasks.now) r.leaf) (lane_of c.args.rows.now.lanes c.args.p) c.loop-i.i c.row.result c.requires.names c.row.ensures
+    AllByRecursion-get (λ r. IsAmong (length c.args.tasks.now) r.leaf) (lane_of c.args.rows.now.lanes c.args.p) c.loop-i.i c.row.result c.requires.names
+    c.row.ensures
 
 pub add_row-requires-clause-room : goal.add_row-requires-clause-room
 add_row-requires-clause-room c =

@@ -26,7 +26,8 @@ add_lane-requires-clause-room c =
     let p = c.loop-p.p in
     let many = c.processors-p-end.ensures in
     let within : p < length lanes = omega (arith, many, c.loop-p-test.true) in
-    room_next c.args.look c.args.tasks.now (all_rows (take p lanes)) (lane_of lanes p) (all_rows (drop (p + 1) lanes)) (all_rows lanes) c.args.sums.now c.loop-p.sums
+    room_next c.args.look c.args.tasks.now (all_rows (take p lanes)) (lane_of lanes p) (all_rows (drop (p + 1) lanes)) (all_rows lanes) c.args.sums.now
+    c.loop-p.sums
     (lanes_parted lanes (p + 1) ∙ ap (λ (rows : List Row). rows ++ all_rows (drop (p + 1) lanes)) (lanes_more lanes p within))
     c.loop-p.auto.sums c.requires.room c.loop-p.invariant
 
@@ -36,7 +37,8 @@ loop-p-preserved c =
     let p = c.loop-p.p in
     let many = c.processors-p-end.ensures in
     let within : p < length lanes = omega (arith, many, c.loop-p-test.true) in
-    given_then c.args.look c.args.tasks.now (all_rows (take p lanes)) (lane_of lanes p) (all_rows (take (p + 1) lanes)) c.args.sums.now c.loop-p.sums c.add_lane.new.sums
+    given_then c.args.look c.args.tasks.now (all_rows (take p lanes)) (lane_of lanes p) (all_rows (take (p + 1) lanes)) c.args.sums.now c.loop-p.sums
+    c.add_lane.new.sums
     (lanes_more lanes p within) c.loop-p.auto.sums c.loop-p.invariant c.add_lane.ensures
 
 pub returns : goal.returns
@@ -44,4 +46,5 @@ returns c =
     let lanes = c.args.rows.now.lanes in
     let many = c.processors-p-end.ensures in
     let past : length lanes ≤ c.loop-p.p = omega (arith, many, c.loop-p-test.false) in
-    subst (λ (ls : List (List Row)). AddsGiven c.args.look c.args.tasks.now (all_rows ls) c.args.sums.now c.loop-p.sums) (take_all c.loop-p.p lanes past) c.loop-p.invariant
+    subst (λ (ls : List (List Row)). AddsGiven c.args.look c.args.tasks.now (all_rows ls) c.args.sums.now c.loop-p.sums) (take_all c.loop-p.p lanes past)
+    c.loop-p.invariant

@@ -19,13 +19,15 @@ pub returns-in_err-write_rows-clause-wrote : goal.returns-in_err-write_rows-clau
 returns-in_err-write_rows-clause-wrote g c =
     let line = rw (c.as_slice.ensures.bytes, c.lane_line.ensures) at c.in_ok-write_all.ensures.wrote in
     wrote_then _ _ _ (lane_line c.args.p) _ _ _ line
-    (wrote_cut _ _ (flat_map (row_line c.args.step) (lane_of c.args.rows.now.lanes c.args.p)) _ _ _ c.in_err-write_rows.ensures.wrote c.from_residual-in_err-write_rows.ensures.0)
+    (wrote_cut _ _ (flat_map (row_line c.args.step) (lane_of c.args.rows.now.lanes c.args.p)) _ _ _ c.in_err-write_rows.ensures.wrote
+    c.from_residual-in_err-write_rows.ensures.0)
 
 pub returns-clause-wrote : goal.returns-clause-wrote
 returns-clause-wrote g c =
     let line = rw (c.as_slice.ensures.bytes, c.lane_line.ensures) at c.in_ok-write_all.ensures.wrote in
     wrote_then _ _ _ (lane_line c.args.p) _ _ _ line
-    (wrote_then _ _ _ (flat_map (row_line c.args.step) (lane_of c.args.rows.now.lanes c.args.p)) _ _ _ c.in_ok-write_rows.ensures.wrote c.write_all-2.ensures.wrote)
+    (wrote_then _ _ _ (flat_map (row_line c.args.step) (lane_of c.args.rows.now.lanes c.args.p)) _ _ _ c.in_ok-write_rows.ensures.wrote
+    c.write_all-2.ensures.wrote)
 
 pub returns-in_err-write_all-clause-cause : goal.returns-in_err-write_all-clause-cause
 returns-in_err-write_all-clause-cause g c = cause_cut _ _ _ _ _ (le_refl _) c.in_err-write_all.ensures.cause

@@ -13,12 +13,15 @@ returns-in_err-write_lane-clause-wrote g c =
     let lanes = c.args.rows.now.lanes in
     let many = c.processors-p-end.ensures in
     let below : c.loop-p.p < length lanes = omega (arith, many, c.loop-p-test.true) in
-    wrote_number (λ (p : ℕ). lane_text c.args.step p (lane_of lanes p)) (length lanes) c.loop-p.p _ _ _ _ _ below c.loop-p.invariant.0 c.in_err-write_lane.ensures.wrote c.from_residual.ensures.0
+    wrote_number (λ (p : ℕ). lane_text c.args.step p (lane_of lanes p)) (length lanes) c.loop-p.p _ _ _ _ _ below c.loop-p.invariant.0
+    c.in_err-write_lane.ensures.wrote c.from_residual.ensures.0
 
 pub loop-p-preserved : goal.loop-p-preserved
 loop-p-preserved g c =
-    let lanes = c.args.rows.now.lanes in
-    (number_written (λ (p : ℕ). lane_text c.args.step p (lane_of lanes p)) c.loop-p.p _ _ _ c.loop-p.invariant.0 c.in_ok-write_lane.ensures.wrote.ok, le_trans c.loop-p.invariant.1 c.write_lane.ensures.cause.later)
+    let lanes = c.args.rows.now.lanes in (
+      number_written (λ (p : ℕ). lane_text c.args.step p (lane_of lanes p)) c.loop-p.p _ _ _ c.loop-p.invariant.0 c.in_ok-write_lane.ensures.wrote.ok,
+      le_trans c.loop-p.invariant.1 c.write_lane.ensures.cause.later,
+    )
 
 pub returns-clause-wrote : goal.returns-clause-wrote
 returns-clause-wrote g c =

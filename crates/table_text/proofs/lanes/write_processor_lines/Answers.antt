@@ -14,13 +14,17 @@ returns-in_err-write_all-clause-wrote g c =
     let many = c.processors-p-end.ensures in
     let below : c.loop-p.p < length lanes = omega (arith, many, c.loop-p-test.true) in
     let wrote = rw (c.as_slice.ensures.bytes, c.processor_line-line.ensures, c.count.ensures) at c.in_err-write_all.ensures.wrote in
-    wrote_number (λ (p : ℕ). processor_line p (length (lane_of lanes p))) (length lanes) c.loop-p.p _ _ _ _ _ below c.loop-p.invariant.0 wrote c.from_residual.ensures.0
+    wrote_number (λ (p : ℕ). processor_line p (length (lane_of lanes p))) (length lanes) c.loop-p.p _ _ _ _ _ below c.loop-p.invariant.0 wrote
+    c.from_residual.ensures.0
 
 pub loop-p-preserved : goal.loop-p-preserved
 loop-p-preserved g c =
     let lanes = c.args.rows.now.lanes in
-    let wrote = rw (c.as_slice.ensures.bytes, c.processor_line-line.ensures, c.count.ensures) at c.in_ok-write_all.ensures.wrote in
-    (number_written (λ (p : ℕ). processor_line p (length (lane_of lanes p))) c.loop-p.p _ _ _ c.loop-p.invariant.0 wrote.ok, le_trans c.loop-p.invariant.1 c.write_all.ensures.cause.later)
+    let wrote = rw (c.as_slice.ensures.bytes, c.processor_line-line.ensures, c.count.ensures) at c.in_ok-write_all.ensures.wrote in (
+      number_written (λ (p : ℕ). processor_line p (length (lane_of lanes p))) c.loop-p.p _ _ _ c.loop-p.invariant.0 wrote.ok,
+      le_trans c.loop-p.invariant.1
+          c.write_all.ensures.cause.later,
+    )
 
 pub returns-clause-wrote : goal.returns-clause-wrote
 returns-clause-wrote g c =

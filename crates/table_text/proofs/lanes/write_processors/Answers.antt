@@ -18,7 +18,8 @@ returns-in_err-write_all-clause-wrote g c =
 pub returns-in_err-write_processor_lines-clause-wrote : goal.returns-in_err-write_processor_lines-clause-wrote
 returns-in_err-write_processor_lines-clause-wrote g c =
     wrote_then _ _ _ _ _ _ _ c.in_ok-write_all.ensures.wrote
-    (wrote_cut _ _ (processor_lines c.args.rows.now.lanes) _ _ _ c.in_err-write_processor_lines.ensures.wrote c.from_residual-in_err-write_processor_lines.ensures.0)
+    (wrote_cut _ _ (processor_lines c.args.rows.now.lanes) _ _ _ c.in_err-write_processor_lines.ensures.wrote
+    c.from_residual-in_err-write_processor_lines.ensures.0)
 
 pub returns-clause-wrote : goal.returns-clause-wrote
 returns-clause-wrote g c =

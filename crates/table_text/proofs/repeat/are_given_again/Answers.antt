@@ -14,7 +14,8 @@ returns-then-not-is_given_again c =
     let is : c.index-tasks-j.result ≡ task_at tasks j = c.index-tasks-j.is ∙ get_or_default tasks j c.index-tasks-j.result no_task c.loop-j-test.true in
     let off : c.is_given_again.result ≡ false = search (rules, tests) in
     one_fails (is_given_again tasks c.args.from c.args.before.now c.args.after.now) (length tasks) j c.loop-j-test.true
-    (ap (λ (t : Task). nat_le t.offset c.args.from && eqb (get_or c.args.after.now j 0) (get_or c.args.before.now j 0)) (sym is) ∙ sym c.is_given_again.ensures ∙ off)
+    (ap (λ (t : Task). nat_le t.offset c.args.from && eqb (get_or c.args.after.now j 0) (get_or c.args.before.now j 0)) (sym is)
+    ∙ sym c.is_given_again.ensures ∙ off)
 
 pub loop-j-preserved : goal.loop-j-preserved
 loop-j-preserved c =
@@ -23,7 +24,8 @@ loop-j-preserved c =
     let is : c.index-tasks-j.result ≡ task_at tasks j = c.index-tasks-j.is ∙ get_or_default tasks j c.index-tasks-j.result no_task c.loop-j-test.true in
     let on : c.is_given_again.result ≡ true = search (rules, tests) in
     below_more (λ k. is_given_again tasks c.args.from c.args.before.now c.args.after.now k ≡ true) j c.loop-j.invariant
-    (ap (λ (t : Task). nat_le t.offset c.args.from && eqb (get_or c.args.after.now j 0) (get_or c.args.before.now j 0)) (sym is) ∙ sym c.is_given_again.ensures ∙ on)
+    (ap (λ (t : Task). nat_le t.offset c.args.from && eqb (get_or c.args.after.now j 0) (get_or c.args.before.now j 0)) (sym is)
+    ∙ sym c.is_given_again.ensures ∙ on)
 
 pub returns : goal.returns
 returns c =

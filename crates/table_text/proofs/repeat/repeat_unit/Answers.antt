@@ -3,7 +3,8 @@ use Rattle.std.proofs.lemmas.Bool.{and_from, le-leb, lt-leb}
 use Rattle.sched_base.specs.Tables.{all_rows}
 use Rattle.repeat_laws.specs.Repeats.{ends_again, stands_again}
 use Rattle.repeat_laws.proofs.Deciding.{unit_before, unit_none, unit_start}
-use Rattle.table_text.proofs.repeat.repeat_unit.Goals.{else-scale-horizon-via-then-scale-horizon+in_ok-stands_again+else-branch, else-scale-horizon-via-else-scale-horizon}
+use Rattle.table_text.proofs.repeat.repeat_unit.Goals.{else-scale-horizon-via-then-scale-horizon+in_ok-stands_again+else-branch}
+use Rattle.table_text.proofs.repeat.repeat_unit.Goals.{else-scale-horizon-via-else-scale-horizon}
 use Rattle.table_text.proofs.repeat.repeat_unit.Goals as goal
 
 pub returns-then-can_repeat : goal.returns-then-can_repeat

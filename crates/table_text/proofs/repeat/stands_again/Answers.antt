@@ -31,4 +31,5 @@ pub given_each-requires-clause-small : goal.given_each-requires-clause-small
 given_each-requires-clause-small c = (small_looks c.args.scale c.args.from c.args.set.now.horizon c.requires.within c.know_lawful.ensures.lawful.horizon_fits).0
 
 pub given_each-requires-2-clause-small : goal.given_each-requires-2-clause-small
-given_each-requires-2-clause-small c = (small_looks c.args.scale c.args.from c.args.set.now.horizon c.requires.within c.know_lawful.ensures.lawful.horizon_fits).1
+given_each-requires-2-clause-small c = (small_looks c.args.scale c.args.from c.args.set.now.horizon c.requires.within
+    c.know_lawful.ensures.lawful.horizon_fits).1

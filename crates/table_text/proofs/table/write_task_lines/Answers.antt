@@ -11,7 +11,8 @@ pub returns-in_err-write_all-clause-wrote : goal.returns-in_err-write_all-clause
 returns-in_err-write_all-clause-wrote g c =
     let wrote = rw (c.as_slice.ensures.bytes, c.task_line.ensures) at c.in_err-write_all.ensures.wrote in
     rw (← c.tasks-task-items.ensures.value)
-    (wrote_item task_line c.tasks-task-items.result.now c.loop-task.task-index c.task-item.result _ _ _ _ _ c.loop-task-test.true c.task-item.is c.loop-task.invariant.0 wrote c.from_residual.ensures.0)
+    (wrote_item task_line c.tasks-task-items.result.now c.loop-task.task-index c.task-item.result _ _ _ _ _ c.loop-task-test.true c.task-item.is
+    c.loop-task.invariant.0 wrote c.from_residual.ensures.0)
 
 pub returns-in_err-write_all-clause-cause : goal.returns-in_err-write_all-clause-cause
 returns-in_err-write_all-clause-cause g c = cause_cut _ _ _ _ _ c.loop-task.invariant.1 c.in_err-write_all.ensures.cause

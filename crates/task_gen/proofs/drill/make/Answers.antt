@@ -2,7 +2,8 @@ use Rattle.std.proofs.Common.{◌≡◌, ◌∙◌, ◌*◌, get_or, length, sym
 use Rattle.std.proofs.lemmas.Result.{IfOk-from_err}
 use Rattle.sched_base.specs.Sets.{IsFree}
 use Rattle.task_gen.specs.Drill.{name_of_number}
-use Rattle.task_gen.proofs.DrillLemmas.{HasDrawn-none, HasDrawn-added, HasDrawn-left, HasDrawn-all, are_chosen, light, next_is_free, period_is, room_for, same_task}
+use Rattle.task_gen.proofs.DrillLemmas.{HasDrawn-none, HasDrawn-added, HasDrawn-left, HasDrawn-all, are_chosen, light, next_is_free, period_is}
+use Rattle.task_gen.proofs.DrillLemmas.{room_for, same_task}
 use Rattle.task_gen.proofs.NameLemmas.{name_lawful}
 use Rattle.task_gen.proofs.drill.make.Goals as goal
 use Rattle.task_gen.proofs.drill.make.Goals.{then-load-weight-le-ROOM+in_ok-add, else-load-weight-le-ROOM}
@@ -12,7 +13,8 @@ loop-j-init c = HasDrawn-none c.args.words.now c.start-set.result c.start-set.en
 
 pub add-requires-clause-free : goal.add-requires-clause-free
 add-requires-clause-free c =
-    let is : c.as_slice.result.now ≡ name_of_number (length c.loop-j.set.tasks) = c.as_slice.ensures.bytes ∙ c.name_of.ensures ∙ ap name_of_number c.count.ensures.value in
+    let is : c.as_slice.result.now ≡ name_of_number (length c.loop-j.set.tasks) = c.as_slice.ensures.bytes ∙ c.name_of.ensures ∙ ap name_of_number
+    c.count.ensures.value in
     subst (λ name. IsFree name c.loop-j.set.tasks) (sym is) (next_is_free c.loop-j.set.tasks c.loop-j.invariant.drawn)
 
 pub loop-j-preserved : goal.loop-j-preserved
@@ -20,11 +22,15 @@ loop-j-preserved c =
     elim c.if-load-weight-le-ROOM.branch [
       | then-load-weight-le-ROOM+in_ok-add w ↦
           let name = w.as_slice.ensures.bytes ∙ w.name_of.ensures ∙ ap name_of_number w.count.ensures.value in
-          let same = same_task c.args.words.now c.loop-j.j c.loop-j.set.tasks w.as_slice.result.now _ _ name c.work_by-work.ensures c.period_by-period.ensures in
-          rw (w.set-is, w.load-is, w.in_ok-add.ensures.ok) (HasDrawn-added c.args.words.now c.loop-j.j c.loop-j.set c.loop-j.load _ (omega arith) c.loop-j.invariant same w.if-load-weight-le-ROOM.true)
+          let same = same_task c.args.words.now c.loop-j.j c.loop-j.set.tasks w.as_slice.result.now _ _ name c.work_by-work.ensures
+          c.period_by-period.ensures in
+          rw (w.set-is, w.load-is, w.in_ok-add.ensures.ok) (HasDrawn-added c.args.words.now c.loop-j.j c.loop-j.set c.loop-j.load _ (omega arith)
+          c.loop-j.invariant same w.if-load-weight-le-ROOM.true)
       | else-load-weight-le-ROOM w ↦
-          let same = same_task c.args.words.now c.loop-j.j c.loop-j.set.tasks (name_of_number (length c.loop-j.set.tasks)) _ _ refl c.work_by-work.ensures c.period_by-period.ensures in
-          rw (w.set-is, w.load-is) (HasDrawn-left c.args.words.now c.loop-j.j c.loop-j.set c.loop-j.load _ (omega arith) c.loop-j.invariant same w.if-load-weight-le-ROOM.false)
+          let same = same_task c.args.words.now c.loop-j.j c.loop-j.set.tasks (name_of_number (length c.loop-j.set.tasks)) _ _ refl c.work_by-work.ensures
+          c.period_by-period.ensures in
+          rw (w.set-is, w.load-is) (HasDrawn-left c.args.words.now c.loop-j.j c.loop-j.set c.loop-j.load _ (omega arith) c.loop-j.invariant same
+          w.if-load-weight-le-ROOM.false)
     ]
 
 pub returns : goal.returns
@@ -96,7 +102,8 @@ add-requires-clause-room c = room_for c.loop-j.set.tasks c.loop-j.invariant.draw
 
 pub add-requires-clause-lawful : goal.add-requires-clause-lawful
 add-requires-clause-lawful c =
-    let is : c.as_slice.result.now ≡ name_of_number (length c.loop-j.set.tasks) = c.as_slice.ensures.bytes ∙ c.name_of.ensures ∙ ap name_of_number c.count.ensures.value in
+    let is : c.as_slice.result.now ≡ name_of_number (length c.loop-j.set.tasks) = c.as_slice.ensures.bytes ∙ c.name_of.ensures ∙ ap name_of_number
+    c.count.ensures.value in
     let few = room_for c.loop-j.set.tasks c.loop-j.invariant.drawn in
     rw is (name_lawful (length c.loop-j.set.tasks) (omega (arith, few)))
 
@@ -107,7 +114,8 @@ pub add-requires-clause-work_fits : goal.add-requires-clause-work_fits
 add-requires-clause-work_fits c = (are_chosen _ _ c.work_by-work.result c.period_by-period.result c.work_by-work.ensures c.period_by-period.ensures).work_fits
 
 pub add-requires-clause-period_fits : goal.add-requires-clause-period_fits
-add-requires-clause-period_fits c = let small = (are_chosen _ _ c.work_by-work.result c.period_by-period.result c.work_by-work.ensures c.period_by-period.ensures).small_period in omega (arith, small)
+add-requires-clause-period_fits c = let small = (are_chosen _ _ c.work_by-work.result c.period_by-period.result c.work_by-work.ensures
+    c.period_by-period.ensures).small_period in omega (arith, small)
 
 pub returns-in_err-add : goal.returns-in_err-add
 returns-in_err-add c = IfOk-from_err _ _ c.from_residual.ensures.0

@@ -12,13 +12,15 @@ returns-in_err-refusal c = IfOk-from_err _ _ c.from_residual.ensures.0
 
 pub returns-in-Some : goal.returns-in-Some
 returns-in-Some c =
-    sym (task_found unknown_at c.args.tasks.now c.loop-i.i c.index-tasks-i.result c.task_place.result _ c.in-Some.refusal c.loop-i-test.true c.index-tasks-i.is c.task_place.ensures
+    sym (task_found unknown_at c.args.tasks.now c.loop-i.i c.index-tasks-i.result c.task_place.result _ c.in-Some.refusal c.loop-i-test.true
+    c.index-tasks-i.is c.task_place.ensures
     c.in_ok-refusal.ensures c.in-Some.is)
     ∙ c.loop-i.invariant
 
 pub loop-i-preserved : goal.loop-i-preserved
 loop-i-preserved c =
-    sym (task_more unknown_at c.args.tasks.now c.loop-i.i c.index-tasks-i.result c.task_place.result _ c.loop-i-test.true c.index-tasks-i.is c.task_place.ensures c.in_ok-refusal.ensures
+    sym (task_more unknown_at c.args.tasks.now c.loop-i.i c.index-tasks-i.result c.task_place.result _ c.loop-i-test.true c.index-tasks-i.is
+    c.task_place.ensures c.in_ok-refusal.ensures
     c.in_default.is)
     ∙ c.loop-i.invariant
 

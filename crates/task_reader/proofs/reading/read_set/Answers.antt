@@ -15,6 +15,10 @@ pub returns-else-is_memory : goal.returns-else-is_memory
 unfolding set_read_from
 returns-else-is_memory c wanted =
     elim (cases_Bool (is_utf8 c.args.bytes.now)) [
-      | inl text ↦ rw (text, c.in-Err.ensures.refused (λ memory. false≢true (sym c.if-is_memory.false ∙ c.is_memory.ensures.1 memory)) (IsUtf8-from_is_utf8 _ text)) refl
+      | inl text ↦ rw (
+        text,
+        c.in-Err.ensures.refused (λ memory. false≢true (sym c.if-is_memory.false ∙ c.is_memory.ensures.1 memory))
+            (IsUtf8-from_is_utf8 _ text),
+      ) refl
       | inr other ↦ rw other refl
     ]

@@ -11,4 +11,5 @@ lift-requires g c = (record { lane = c.loop-p.p; posted = 0 }, c.loop-p.invarian
 
 pub loop-p-preserved : goal.loop-p-preserved
 loop-p-preserved g c = λ q low high.
-    ap (λ xs. slice_get xs q) c.lift.ensures.rest ∙ get-set_other c.loop-p.seats c.loop-p.p q None (λ same. omega (arith, same, low)) ∙ c.loop-p.invariant q (omega (arith, low)) high
+    ap (λ xs. slice_get xs q) c.lift.ensures.rest ∙ get-set_other c.loop-p.seats c.loop-p.p q None (λ same. omega (arith, same, low)) ∙ c.loop-p.invariant q
+    (omega (arith, low)) high

@@ -8,7 +8,8 @@ new-requires-clause-jobs g c = λ t task. (
   record { id = t; used = 0 },
   c.jobs_of-jobs.ensures t (
       let same = rw c.expect-plan.ensures at c.copy.ensures in
-      let many = c.count.ensures.value ∙ ap (λ (s : SetContents). length s.tasks) c.set.ensures.value ∙ ap (λ (p : PlanContents). length p.set.tasks) (sym same) in
+      let many = c.count.ensures.value ∙ ap (λ (s : SetContents). length s.tasks) c.set.ensures.value ∙ ap (λ (p : PlanContents). length p.set.tasks)
+      (sym same) in
       omega (arith, task, many)
       ),
   record { own = refl; worked = refl; agrees = rw c.requires.made refl },

@@ -15,7 +15,9 @@ loop-t-preserved g c =
       long = ap length more ∙ (let both = length-append places (Some c.new.result ∷ []) in omega (arith, both, long));
       filled = λ t below. elim (cases_eq t c.loop-t.t) [
         | inl same ↦ subst (λ k. JobAt c.add.new.self.places k (record { id = k; used = 0 })) (sym same)
-            (ap (λ xs. slice_get xs c.loop-t.t) more ∙ get-last places (Some c.new.result) c.loop-t.t (omega (arith, long)) ∙ ap (λ j. Some (Some j)) c.new.ensures)
-        | inr other ↦ ap (λ xs. slice_get xs t) more ∙ get-before places (Some c.new.result) t (omega (arith, long, below)) ∙ c.loop-t.invariant.filled t (omega (arith, below))
+            (ap (λ xs. slice_get xs c.loop-t.t) more ∙ get-last places (Some c.new.result) c.loop-t.t (omega (arith, long)) ∙ ap (λ j. Some (Some j))
+            c.new.ensures)
+        | inr other ↦ ap (λ xs. slice_get xs t) more ∙ get-before places (Some c.new.result) t (omega (arith, long, below)) ∙ c.loop-t.invariant.filled t
+            (omega (arith, below))
       ];
     }

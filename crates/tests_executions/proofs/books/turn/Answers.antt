@@ -14,5 +14,6 @@ post-requires-clause-job g c =
     let follows = c.log-follows.ensures.follows in
     let worked = when_ok c.work.result _ c.work.ensures.sure c.work.ensures.ok in
     worked_fits (plan_rows old.plan) (plan_rows now.plan) old.window now.window old.state now.state c.lane-p.result c.in-Ready.taken
-    (ap (λ (b : BookContents CountHeld). plan_rows b.plan) hands.book) (plan_table now.plan c.plan-lawful.ensures.lawful) follows.reached (ap (λ (b : BookContents CountHeld). b.state) hands.book) c.assert_free.ensures.lane hands.legal
+    (ap (λ (b : BookContents CountHeld). plan_rows b.plan) hands.book) (plan_table now.plan c.plan-lawful.ensures.lawful) follows.reached
+    (ap (λ (b : BookContents CountHeld). b.state) hands.book) c.assert_free.ensures.lane hands.legal
     _ _ _ g.Q.PostLedger.made c.in-Ready.given hands.ready c.in-Some.job c.work.new.self c.in-Some.is c.work.ensures.id refl worked

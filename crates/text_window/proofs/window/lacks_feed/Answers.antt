@@ -5,4 +5,5 @@ use Rattle.text_window.proofs.window.lacks_feed.Goals as goal
 
 pub returns-in-Some-clause-other : goal.returns-in-Some-clause-other
 returns-in-Some-clause-other c =
-    λ other. feed_added c.args.text.now c.in-Some.last.now c.in-Some.field-0-1.now c.in-Some.ensures.cases.0 (λ e. both_ways _ (not-true _ other) (eq-eqb c.in-Some.last.now 10 e))
+    λ other. feed_added c.args.text.now c.in-Some.last.now c.in-Some.field-0-1.now c.in-Some.ensures.cases.0 (λ e. both_ways _ (not-true _ other)
+    (eq-eqb c.in-Some.last.now 10 e))

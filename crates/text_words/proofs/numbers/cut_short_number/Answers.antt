@@ -11,5 +11,6 @@ returns c =
     let inside : n < length bs = omega (arith, within, c.if-count-text.false) in (
       take n bs,
       cut_here bs n inside c.if-text-count-ne32.false ∙ ap (λ r. take n bs ++ 32 ∷ r) (sym (take_rest (n + 1) (length bs) bs refl)),
-      cond-true _ _ _ (and_from _ _ (sym c.leads.ensures ∙ c.if-not-leads.false) c.front_digits-count.ensures.digits) ∙ ap Some (sym c.front_digits-count.ensures.value),
+      cond-true _ _ _ (and_from _ _ (sym c.leads.ensures ∙ c.if-not-leads.false) c.front_digits-count.ensures.digits)
+          ∙ ap Some (sym c.front_digits-count.ensures.value),
     )

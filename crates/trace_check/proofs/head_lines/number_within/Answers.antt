@@ -7,7 +7,8 @@ no_number : (low high : ℕ) (found : Option ℕ) → None ≡ option_map cap fo
 no_number low high found e = rw (none_capped found e) refl
 
 pub returns-in_err-number-clause-value : goal.returns-in_err-number-clause-value
-returns-in_err-number-clause-value c = c.from_residual.ensures ∙ no_number c.args.low c.args.high (number_after c.args.word.now c.args.line.now) c.in_err-number.ensures
+returns-in_err-number-clause-value c = c.from_residual.ensures ∙ no_number c.args.low c.args.high (number_after c.args.word.now c.args.line.now)
+    c.in_err-number.ensures
 
 pub returns-in_err-number-clause-limits : goal.returns-in_err-number-clause-limits
 returns-in_err-number-clause-limits c = rw c.from_residual.ensures tt

@@ -23,11 +23,16 @@ returns c =
     let count = reaches.count in
     let within : m.task < length t.reaches.now = omega (arith, count, place.task) in
     let reach = c.index-tail-met.result in
-    let periods : IsReachOf t.scale task reach = subst (λ w. IsReachOf t.scale w reach) (sym is) (subst (IsReachOf t.scale (task_at s.tasks m.task)) (sym c.index-tail-met.is) (reaches.periods m.task reach within)) in
+    let periods : IsReachOf t.scale task reach = subst (λ w. IsReachOf t.scale w reach) (sym is) (subst (IsReachOf t.scale (task_at s.tasks m.task))
+    (sym c.index-tail-met.is) (reaches.periods m.task reach within)) in
     let line : c.met_line-line.result ≡ met_line task.name m.period (finish t.scale s t.rows.now m.task m.period)
-    = met_is t.scale s t.rows.now m.task task reach m.period c.max.result c.period_start-begin.result c.period_start-end.result c.reach-reached.result c.as_slice.result.now c.met_line-line.result
-    periods (sym is) c.period_start-begin.ensures c.period_start-end.ensures (c.reach-reached.ensures ∙ ap (λ q. reach_to t.rows.now m.task q (m.period + 1)) (sym c.index-tail-met.is)) (c.max.ensures ∙ ap (max c.period_start-begin.result) c.min.ensures) c.as_slice.ensures.bytes c.met_line-line.ensures in (
-      met_next t m c.met_line-line.result place c.if-met-ge-MOST_METS.false (line ∙ ap (λ w. met_line w.name m.period (finish t.scale s t.rows.now m.task m.period)) is)
+    = met_is t.scale s t.rows.now m.task task reach m.period c.max.result c.period_start-begin.result c.period_start-end.result c.reach-reached.result
+    c.as_slice.result.now c.met_line-line.result
+    periods (sym is) c.period_start-begin.ensures c.period_start-end.ensures (c.reach-reached.ensures ∙ ap (λ q. reach_to t.rows.now m.task q
+    (m.period + 1)) (sym c.index-tail-met.is)) (c.max.ensures ∙ ap (max c.period_start-begin.result) c.min.ensures) c.as_slice.ensures.bytes
+    c.met_line-line.ensures in (
+      met_next t m c.met_line-line.result place c.if-met-ge-MOST_METS.false (line ∙ ap (λ w. met_line w.name m.period (finish t.scale s t.rows.now m.task
+          m.period)) is)
           ∙ ap (λ ls. c.met_line-line.result ∷ ls) (sym c.behind_met.ensures.left),
       c.behind_met.ensures.place,
     )

@@ -13,7 +13,8 @@ returns-in_ok-add-clause-ends c = λ done e.
 
 pub returns-else-place-reaches-clause-ends : goal.returns-else-place-reaches-clause-ends
 returns-else-place-reaches-clause-ends c = λ done e.
-    reaches_other done c.args.row.now c.args.reaches.now e (λ i h. other_task i c.in-Task.id c.args.row.now.leaf c.in-Task.is (λ here. absurd (omega (arith, h, here, c.if-place-reaches.false))))
+    reaches_other done c.args.row.now c.args.reaches.now e (λ i h. other_task i c.in-Task.id c.args.row.now.leaf c.in-Task.is
+    (λ here. absurd (omega (arith, h, here, c.if-place-reaches.false))))
 
 pub returns-in_default : goal.returns-in_default
 returns-in_default c = record {

@@ -21,7 +21,8 @@ loop-task-preserved c =
     let known = task_is c.args.set.now c.tasks-task-items.result.now c.loop-task.task-index c.task-item.result value within c.task-item.is in
     let is : c.task-item.result ≡ task_at c.args.set.now.tasks (length old) = known ∙ ap (task_at c.args.set.now.tasks) (sym had) in (
       subst (AreReachesOf c.args.scale c.args.set.now.tasks) (sym items)
-          (periods_push c.args.scale c.args.set.now.tasks old new c.loop-task.invariant.0 (subst (λ t. IsReachOf c.args.scale t new) is c.in_ok-new.ensures.periods)),
+          (periods_push c.args.scale c.args.set.now.tasks old new c.loop-task.invariant.0 (subst (λ t. IsReachOf c.args.scale t new) is
+          c.in_ok-new.ensures.periods)),
       omega (arith, size, all, had),
       subst (HaveEnds []) (sym items) (ends_push old new c.loop-task.invariant.2 c.in_ok-new.ensures.ends),
     )

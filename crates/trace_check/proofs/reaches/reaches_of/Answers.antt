@@ -35,7 +35,8 @@ returns-clause-periods c =
     let long = c.in_ok-add_rows.ensures.count ∙ ap length c.deref_mut.ensures.value in
     let back = take_at new (drop (length new) old.items) old.len (long ∙ sym old.ok.0) in
     let are = AreReachesOf c.args.scale c.args.set.now.tasks in
-    subst are (sym back) (c.in_ok-add_rows.ensures.periods c.args.scale c.args.set.now.tasks (subst are (sym c.deref_mut.ensures.value) c.in_ok-reaches.ensures.periods))
+    subst are (sym back) (c.in_ok-add_rows.ensures.periods c.args.scale c.args.set.now.tasks (subst are (sym c.deref_mut.ensures.value)
+    c.in_ok-reaches.ensures.periods))
 
 pub returns-clause-count : goal.returns-clause-count
 returns-clause-count c =

@@ -22,7 +22,8 @@ returns-in-Fault-clause-fault c =
     let rows = c.loop-table.rows in
     let count = c.from.ensures ∙ c.count.ensures.value in
     let long = c.len.ensures in
-    read_stops tasks c.args.text.now c.loop-table.rest.now rows c.loop-table.totals.items (6 + c.from.result + c.len.result) c.loop-table.invariant c.in-Fault.ensures
+    read_stops tasks c.args.text.now c.loop-table.rest.now rows c.loop-table.totals.items (6 + c.from.result + c.len.result) c.loop-table.invariant
+    c.in-Fault.ensures
     (ap (λ n. 6 + n + c.len.result) count ∙ ap (λ n. 6 + length tasks + n) long)
 
 pub add_ticks-requires : goal.add_ticks-requires
@@ -43,7 +44,8 @@ loop-table-preserved c =
     let back = take_at new (drop (length new) old.items) old.len (long ∙ sym old.ok.0) in
     let next = c.in-Row.ensures in
     subst (λ sums. ReadSoFar c.args.set.now.tasks c.args.text.now c.push.new.self sums c.in-Row.later.now) (sym back)
-    (read_more c.args.set.now.tasks c.args.text.now c.loop-table.rest.now c.in-Row.later.now c.loop-table.rows c.push.new.self c.in-Row.row old.items new c.loop-table.invariant next.0 next.2
+    (read_more c.args.set.now.tasks c.args.text.now c.loop-table.rest.now c.in-Row.later.now c.loop-table.rows c.push.new.self c.in-Row.row old.items new
+    c.loop-table.invariant next.0 next.2
     c.in_ok-push.ensures c.add_ticks.ensures long)
 
 pub returns-clause-read : goal.returns-clause-read
@@ -65,13 +67,15 @@ pub returns-in_err-totals-clause-read : goal.returns-in_err-totals-clause-read
 returns-in_err-totals-clause-read c = IfOk-from_err _ _ c.from_residual-in_err-totals.ensures.0
 
 pub returns-in_err-totals-clause-fault : goal.returns-in_err-totals-clause-fault
-returns-in_err-totals-clause-fault c = let why = err_from_is_err_and c.from_residual-in_err-totals.result c.from_residual-in_err-totals.ensures.1 in rw (why.1, why.2) tt
+returns-in_err-totals-clause-fault c = let why = err_from_is_err_and c.from_residual-in_err-totals.result c.from_residual-in_err-totals.ensures.1 in
+    rw (why.1, why.2) tt
 
 pub returns-in_err-push-clause-read : goal.returns-in_err-push-clause-read
 returns-in_err-push-clause-read c = IfOk-from_err _ _ c.from_residual-in_err-push.ensures.0
 
 pub returns-in_err-push-clause-fault : goal.returns-in_err-push-clause-fault
-returns-in_err-push-clause-fault c = let why = err_from_is_err_and c.from_residual-in_err-push.result c.from_residual-in_err-push.ensures.1 in rw (why.1, why.2) tt
+returns-in_err-push-clause-fault c = let why = err_from_is_err_and c.from_residual-in_err-push.result c.from_residual-in_err-push.ensures.1 in
+    rw (why.1, why.2) tt
 
 pub returns-in-Fault-clause-read : goal.returns-in-Fault-clause-read
 returns-in-Fault-clause-read c = tt

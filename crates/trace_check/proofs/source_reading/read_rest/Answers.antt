@@ -43,10 +43,16 @@ pub returns-then-is_fault-clause-stops : goal.returns-then-is_fault-clause-stops
 returns-then-is_fault-clause-stops g c =
     let (one, some, at) = c.in_ok-at.ensures.read in
     let (two, last) = c.in_ok-skip_rest.ensures.rest in
-    let line : 6 + length c.args.set.tasks + length c.read_rows.new.rows.rows ≡ 6 + c.from.result + c.len.result = omega (arith, c.from.ensures, c.count.ensures.value, c.len.ensures) in (
+    let line : 6 + length c.args.set.tasks + length c.read_rows.new.rows.rows ≡ 6 + c.from.result + c.len.result = omega (
+      arith,
+      c.from.ensures,
+      c.count.ensures.value,
+      c.len.ensures,
+    ) in (
       one ++ two,
       some_last _ _ _ c.args.window.now c.read_rows.new.window _ one two some last,
-      row_told c.args.head.now c.args.set.tasks c.args.window.now.ahead one two _ c.read_rows.new.rows.rows _ _ at (c.if-is_fault.ensures.fault refl) last.none ∙ ap Err line,
+      row_told c.args.head.now c.args.set.tasks c.args.window.now.ahead one two _ c.read_rows.new.rows.rows _ _ at (c.if-is_fault.ensures.fault refl)
+          last.none ∙ ap Err line,
     )
 
 pub read_tail_of-requires-clause-within : goal.read_tail_of-requires-clause-within
@@ -84,7 +90,8 @@ pub returns-in_err-place-clause-stops : goal.returns-in_err-place-clause-stops
 returns-in_err-place-clause-stops g c =
     let (one, some, at) = c.in_ok-at.ensures.read in
     let (fault, is, same) = err_from_is_err_and c.from_residual-in_err-place.result c.from_residual-in_err-place.ensures.1 in
-    rw (is, same) (tail_unread _ _ _ _ _ _ c.args.window.now c.read_rows.new.window _ one c.args.head.now c.args.set.tasks _ some c.read_rows.ensures.later c.in_err-place.ensures.stops)
+    rw (is, same) (tail_unread _ _ _ _ _ _ c.args.window.now c.read_rows.new.window _ one c.args.head.now c.args.set.tasks _ some c.read_rows.ensures.later
+    c.in_err-place.ensures.stops)
 
 pub overflow_add-result : goal.overflow_add-result
 overflow_add-result g c =
@@ -105,7 +112,8 @@ returns-in-Some-clause-stops g c =
     = omega (arith, c.from.ensures, c.count.ensures.value, c.len.ensures) in (
       one ++ two,
       some_last _ _ _ c.args.window.now c.read_rows.new.window _ one two some last,
-      tail_told c.args.head.now c.args.set c.args.window.now.ahead one two _ c.read_rows.new.rows.rows _ _ (Some c.in-Some.place) c.requires.set at (c.if-is_fault.ensures.other refl) last.none (told ∙ c.in-Some.is) ∙ ap Err line,
+      tail_told c.args.head.now c.args.set c.args.window.now.ahead one two _ c.read_rows.new.rows.rows _ _ (Some c.in-Some.place) c.requires.set at
+          (c.if-is_fault.ensures.other refl) last.none (told ∙ c.in-Some.is) ∙ ap Err line,
     )
 
 pub returns-in-None-clause-read : goal.returns-in-None-clause-read
@@ -114,7 +122,8 @@ returns-in-None-clause-read g c =
     let (two, last, told) = c.in_ok-place.ensures.read in (
       one ++ two,
       some_last _ _ _ c.args.window.now c.read_rows.new.window _ one two some last,
-      tail_told c.args.head.now c.args.set c.args.window.now.ahead one two _ c.read_rows.new.rows.rows _ _ None c.requires.set at (c.if-is_fault.ensures.other refl) last.none (told ∙ c.in-None.is),
+      tail_told c.args.head.now c.args.set c.args.window.now.ahead one two _ c.read_rows.new.rows.rows _ _ None c.requires.set at
+          (c.if-is_fault.ensures.other refl) last.none (told ∙ c.in-None.is),
     )
 
 pub returns-in-None-clause-lawful : goal.returns-in-None-clause-lawful

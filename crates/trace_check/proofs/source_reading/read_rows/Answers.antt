@@ -23,10 +23,12 @@ pub returns-in_err-stop-clause-later : goal.returns-in_err-stop-clause-later
 returns-in_err-stop-clause-later g c = c.loop-stop.invariant.later
 
 pub fill-requires-clause-within : goal.fill-requires-clause-within
-fill-requires-clause-within g c = passed_within c.loop-stop.window c.take_from.new.window c.loop-stop.invariant.within c.in_ok-stop.ensures.count c.in_ok-stop.ensures.limit
+fill-requires-clause-within g c = passed_within c.loop-stop.window c.take_from.new.window c.loop-stop.invariant.within c.in_ok-stop.ensures.count
+    c.in_ok-stop.ensures.limit
 
 pub fill-requires-clause-small : goal.fill-requires-clause-small
-fill-requires-clause-small g c = passed_small c.args.window.now c.loop-stop.window c.take_from.new.window _ c.loop-stop.invariant.limit c.in_ok-stop.ensures.limit c.requires.small
+fill-requires-clause-small g c = passed_small c.args.window.now c.loop-stop.window c.take_from.new.window _ c.loop-stop.invariant.limit
+    c.in_ok-stop.ensures.limit c.requires.small
 
 pub returns-in_err-ended-clause-read : goal.returns-in_err-ended-clause-read
 returns-in_err-ended-clause-read g c = IfOk-from_err _ _ c.from_residual-in_err-ended.ensures.0
@@ -38,10 +40,12 @@ pub returns-then-not-is_cut-clause-later : goal.returns-then-not-is_cut-clause-l
 returns-then-not-is_cut-clause-later g c = later_on _ _ _ c.loop-stop.invariant.later c.fill.ensures.later
 
 pub fill-requires-in-loop-stop-clause-within : goal.fill-requires-in-loop-stop-clause-within
-fill-requires-in-loop-stop-clause-within g c = passed_within c.loop-stop.window c.take_from.new.window c.loop-stop.invariant.within c.in_ok-stop.ensures.count c.in_ok-stop.ensures.limit
+fill-requires-in-loop-stop-clause-within g c = passed_within c.loop-stop.window c.take_from.new.window c.loop-stop.invariant.within
+    c.in_ok-stop.ensures.count c.in_ok-stop.ensures.limit
 
 pub fill-requires-in-loop-stop-clause-small : goal.fill-requires-in-loop-stop-clause-small
-fill-requires-in-loop-stop-clause-small g c = passed_small c.args.window.now c.loop-stop.window c.take_from.new.window _ c.loop-stop.invariant.limit c.in_ok-stop.ensures.limit c.requires.small
+fill-requires-in-loop-stop-clause-small g c = passed_small c.args.window.now c.loop-stop.window c.take_from.new.window _ c.loop-stop.invariant.limit
+    c.in_ok-stop.ensures.limit c.requires.small
 
 pub returns-in_err-fill-clause-read : goal.returns-in_err-fill-clause-read
 returns-in_err-fill-clause-read g c = IfOk-from_err _ _ c.from_residual-in_err-fill.ensures.0
@@ -53,7 +57,8 @@ pub returns-in_err-stop-2-clause-read : goal.returns-in_err-stop-2-clause-read
 returns-in_err-stop-2-clause-read g c = IfOk-from_err _ _ c.from_residual-in_err-stop-2.ensures.0
 
 pub returns-in_err-stop-2-clause-stops : goal.returns-in_err-stop-2-clause-stops
-returns-in_err-stop-2-clause-stops g c = (let (fault, is, same) = err_from_is_err_and c.from_residual-in_err-stop-2.result c.from_residual-in_err-stop-2.ensures.1 in rw (is, same) tt)
+returns-in_err-stop-2-clause-stops g c = (let (fault, is, same) = err_from_is_err_and c.from_residual-in_err-stop-2.result
+    c.from_residual-in_err-stop-2.ensures.1 in rw (is, same) tt)
 
 pub returns-in_err-stop-2-clause-later : goal.returns-in_err-stop-2-clause-later
 returns-in_err-stop-2-clause-later g c = later_on _ _ _ c.loop-stop.invariant.later c.fill-in-loop-stop.ensures.later
@@ -70,26 +75,31 @@ overflow_add-least g c = twice_more_fits _ c.ahead.type_inv.1
 pub loop-stop-smaller : goal.loop-stop-smaller
 loop-stop-smaller g c =
     let filled = c.in_ok-fill.ensures.fills in
-    left_less c.loop-stop.window c.take_from.new.window c.fill-in-loop-stop.new.self _ filled.more c.in_ok-stop.ensures.count c.in_ok-stop.ensures.limit c.ahead.ensures filled.ahead filled.count filled.limit
+    left_less c.loop-stop.window c.take_from.new.window c.fill-in-loop-stop.new.self _ filled.more c.in_ok-stop.ensures.count c.in_ok-stop.ensures.limit
+    c.ahead.ensures filled.ahead filled.count filled.limit
     filled.within (c.in_ok-fill.ensures.more c.if-not-branch.false)
 
 pub returns-in_err-ended-clause-stops : goal.returns-in_err-ended-clause-stops
 returns-in_err-ended-clause-stops g c =
     let (fault, is, same) = err_from_is_err_and c.from_residual-in_err-ended.result c.from_residual-in_err-ended.ensures.1 in
-    let going = going_passed _ _ _ _ _ c.loop-stop.window c.take_from.new.window _ _ _ _ _ c.loop-stop.invariant c.in_ok-stop.ensures.read c.in_ok-stop.ensures.count c.in_ok-stop.ensures.limit in
+    let going = going_passed _ _ _ _ _ c.loop-stop.window c.take_from.new.window _ _ _ _ _ c.loop-stop.invariant c.in_ok-stop.ensures.read
+    c.in_ok-stop.ensures.count c.in_ok-stop.ensures.limit in
     rw (is, same) (going_stops _ _ _ _ _ _ c.args.window.now c.take_from.new.window _ _ _ _ going c.in_err-ended.ensures.stops)
 
 pub returns-then-not-is_cut-clause-read : goal.returns-then-not-is_cut-clause-read
 returns-then-not-is_cut-clause-read g c =
-    let going = going_passed _ _ _ _ _ c.loop-stop.window c.take_from.new.window _ _ _ _ _ c.loop-stop.invariant c.in_ok-stop.ensures.read c.in_ok-stop.ensures.count c.in_ok-stop.ensures.limit in
-    let on = going_filled _ _ _ _ _ _ c.args.window.now c.take_from.new.window c.fill.new.self _ _ _ going c.in_ok-ended.ensures.fills c.in_ok-ended.ensures.later in
+    let going = going_passed _ _ _ _ _ c.loop-stop.window c.take_from.new.window _ _ _ _ _ c.loop-stop.invariant c.in_ok-stop.ensures.read
+    c.in_ok-stop.ensures.count c.in_ok-stop.ensures.limit in
+    let on = going_filled _ _ _ _ _ _ c.args.window.now c.take_from.new.window c.fill.new.self _ _ _ going c.in_ok-ended.ensures.fills
+    c.in_ok-ended.ensures.later in
     let tasks = c.args.set.now.tasks in
     let rows = c.take_from.new.self.rows in
     let stop = c.in_ok-stop.stop in
     let ended = not c.in_ok-ended.field-0 in
     let none = c.if-not-is_cut.ensures.other refl in
     let ahead = c.in_ok-ended.ensures.fills.ahead in
-    let is = subst (λ t. StopIs tasks rows t stop) (sym ahead) (stop_behind tasks rows c.take_from.new.window.ahead c.in_ok-ended.ensures.fills.more stop none c.in_ok-stop.ensures.stop) in (
+    let is = subst (λ t. StopIs tasks rows t stop) (sym ahead) (stop_behind tasks rows c.take_from.new.window.ahead c.in_ok-ended.ensures.fills.more stop
+    none c.in_ok-stop.ensures.stop) in (
       on.more,
       going_some _ _ _ _ c.args.window.now c.fill.new.self _ _ _ ended on (λ e. c.in_ok-ended.ensures.end (not_true_is c.in_ok-ended.field-0 e)),
       rows_stop tasks (c.args.window.now.ahead ++ on.more) c.fill.new.self.ahead rows c.take_from.new.self.totals.items stop ended on.rows none is,
@@ -98,28 +108,36 @@ returns-then-not-is_cut-clause-read g c =
 pub returns-in_err-fill-clause-stops : goal.returns-in_err-fill-clause-stops
 returns-in_err-fill-clause-stops g c =
     let (fault, is, same) = err_from_is_err_and c.from_residual-in_err-fill.result c.from_residual-in_err-fill.ensures.1 in
-    let going = going_passed _ _ _ _ _ c.loop-stop.window c.take_from.new.window _ _ _ _ _ c.loop-stop.invariant c.in_ok-stop.ensures.read c.in_ok-stop.ensures.count c.in_ok-stop.ensures.limit in
+    let going = going_passed _ _ _ _ _ c.loop-stop.window c.take_from.new.window _ _ _ _ _ c.loop-stop.invariant c.in_ok-stop.ensures.read
+    c.in_ok-stop.ensures.count c.in_ok-stop.ensures.limit in
     rw (is, same) (going_stops _ _ _ _ _ _ c.args.window.now c.take_from.new.window _ _ _ _ going c.in_err-fill.ensures.stops)
 
 pub take_last-requires : goal.take_last-requires
 take_last-requires g c =
-    let going = going_passed _ _ _ _ _ c.loop-stop.window c.take_from.new.window _ _ _ _ _ c.loop-stop.invariant c.in_ok-stop.ensures.read c.in_ok-stop.ensures.count c.in_ok-stop.ensures.limit in
-    let on = going_filled _ _ _ _ _ _ c.args.window.now c.take_from.new.window c.fill-in-loop-stop.new.self _ _ _ going c.in_ok-fill.ensures.fills c.in_ok-fill.ensures.later in
+    let going = going_passed _ _ _ _ _ c.loop-stop.window c.take_from.new.window _ _ _ _ _ c.loop-stop.invariant c.in_ok-stop.ensures.read
+    c.in_ok-stop.ensures.count c.in_ok-stop.ensures.limit in
+    let on = going_filled _ _ _ _ _ _ c.args.window.now c.take_from.new.window c.fill-in-loop-stop.new.self _ _ _ going c.in_ok-fill.ensures.fills
+    c.in_ok-fill.ensures.later in
     (_, on.rows)
 
 pub returns-then-not-branch-clause-read : goal.returns-then-not-branch-clause-read
 returns-then-not-branch-clause-read g c =
-    let going = going_passed _ _ _ _ _ c.loop-stop.window c.take_from.new.window _ _ _ _ _ c.loop-stop.invariant c.in_ok-stop.ensures.read c.in_ok-stop.ensures.count c.in_ok-stop.ensures.limit in
-    let on = going_filled _ _ _ _ _ _ c.args.window.now c.take_from.new.window c.fill-in-loop-stop.new.self _ _ _ going c.in_ok-fill.ensures.fills c.in_ok-fill.ensures.later in
+    let going = going_passed _ _ _ _ _ c.loop-stop.window c.take_from.new.window _ _ _ _ _ c.loop-stop.invariant c.in_ok-stop.ensures.read
+    c.in_ok-stop.ensures.count c.in_ok-stop.ensures.limit in
+    let on = going_filled _ _ _ _ _ _ c.args.window.now c.take_from.new.window c.fill-in-loop-stop.new.self _ _ _ going c.in_ok-fill.ensures.fills
+    c.in_ok-fill.ensures.later in
     let over = c.if-not-branch.true in
     let end = c.in_ok-fill.ensures.end (grind arith) in
     let text = c.args.window.now.ahead ++ on.more in (
       on.more,
       going_ended _ _ _ _ c.args.window.now c.fill-in-loop-stop.new.self c.take_last.new.window _ _ _ on end,
-      rows_stop_ended c.args.set.now.tasks text c.take_last.new.window.ahead c.take_last.new.self.rows c.take_last.new.self.totals.items c.in_ok-stop-2.stop (c.in_ok-stop-2.ensures text on.rows),
+      rows_stop_ended c.args.set.now.tasks text c.take_last.new.window.ahead c.take_last.new.self.rows c.take_last.new.self.totals.items c.in_ok-stop-2.stop
+          (c.in_ok-stop-2.ensures text on.rows),
     )
 
 pub loop-stop-preserved : goal.loop-stop-preserved
 loop-stop-preserved g c =
-    let going = going_passed _ _ _ _ _ c.loop-stop.window c.take_from.new.window _ _ _ _ _ c.loop-stop.invariant c.in_ok-stop.ensures.read c.in_ok-stop.ensures.count c.in_ok-stop.ensures.limit in
-    going_filled _ _ _ _ _ _ c.args.window.now c.take_from.new.window c.fill-in-loop-stop.new.self _ _ _ going c.in_ok-fill.ensures.fills c.in_ok-fill.ensures.later
+    let going = going_passed _ _ _ _ _ c.loop-stop.window c.take_from.new.window _ _ _ _ _ c.loop-stop.invariant c.in_ok-stop.ensures.read
+    c.in_ok-stop.ensures.count c.in_ok-stop.ensures.limit in
+    going_filled _ _ _ _ _ _ c.args.window.now c.take_from.new.window c.fill-in-loop-stop.new.self _ _ _ going c.in_ok-fill.ensures.fills
+    c.in_ok-fill.ensures.later

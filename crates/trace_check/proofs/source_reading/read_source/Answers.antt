@@ -11,7 +11,8 @@ filled_within : (a b : Option (List ℕ)) (w v u : WindowHeld) → Fills a b w v
 filled_within a b w v u f count same = (let within = f.within in omega (arith, within, count, same))
 
 -- and its limit is the one that it was made with
-filled_small : (a b : Option (List ℕ)) (w v u : WindowHeld) (limit most : ℕ) → Fills a b w v → u.limit ≡ v.limit → w.limit ≡ limit → limit < most → u.limit < most
+filled_small : (a b : Option (List ℕ)) (w v u : WindowHeld) (limit most : ℕ) → Fills a b w v → u.limit ≡ v.limit → w.limit ≡ limit → limit < most →
+    u.limit < most
 filled_small a b w v u limit most f same top small = subst (λ n. n < most) (sym (same ∙ f.limit ∙ top)) small
 
 pub fill-requires-clause-within : goal.fill-requires-clause-within
@@ -39,7 +40,8 @@ pass-requires g c =
     front.within
 
 pub read_rest-requires-clause-within : goal.read_rest-requires-clause-within
-read_rest-requires-clause-within g c = filled_within _ _ c.new-window.result c.fill.new.self c.pass.new.self c.in_ok-fill.ensures.fills c.pass.ensures.count c.pass.ensures.limit
+read_rest-requires-clause-within g c = filled_within _ _ c.new-window.result c.fill.new.self c.pass.new.self c.in_ok-fill.ensures.fills c.pass.ensures.count
+    c.pass.ensures.limit
 
 pub read_rest-requires-clause-small : goal.read_rest-requires-clause-small
 read_rest-requires-clause-small g c =
@@ -80,7 +82,8 @@ returns-clause-read g c =
     let none = ap (λ (w : WindowHeld). w.ahead) c.new-window.ensures in
     let zero = ap (λ (w : WindowHeld). w.count) c.new-window.ensures in
     let top = ap (λ (w : WindowHeld). w.limit) c.new-window.ensures in
-    let all = filled_rest _ _ _ c.new-window.result c.fill.new.self c.fill_all.new.self c.args.limit none zero top c.in_ok-fill.ensures.fills c.in_ok-fill_all-in-None.ensures.fills c.in_ok-fill_all-in-None.ensures.end in
+    let all = filled_rest _ _ _ c.new-window.result c.fill.new.self c.fill_all.new.self c.args.limit none zero top c.in_ok-fill.ensures.fills
+    c.in_ok-fill_all-in-None.ensures.fills c.in_ok-fill_all-in-None.ensures.end in
     (_, all, rw c.ahead-in-None.ensures at c.in_ok-read_parts-in-None.ensures.trace)
 
 pub returns-clause-lawful : goal.returns-clause-lawful
@@ -94,7 +97,8 @@ returns-in-Some-clause-read g c =
     let front = subst (λ t. IsTextFront t c.in-Some.field-0) c.ahead.ensures c.in-Some.ensures in
     ok_then c.read_rest.result _ _ (λ p told. (
       _,
-      gave_whole _ _ _ c.new-window.result c.fill.new.self c.pass.new.self c.args.limit told.0 none zero top c.in_ok-fill.ensures.fills c.pass.ensures.count c.pass.ensures.limit told.1,
+      gave_whole _ _ _ c.new-window.result c.fill.new.self c.pass.new.self c.args.limit told.0 none zero top c.in_ok-fill.ensures.fills c.pass.ensures.count
+          c.pass.ensures.limit told.1,
       front_gone c.fill.new.self.ahead [] c.pass.new.self.ahead told.0 _ c.in-Some.field-0 front refl c.pass.ensures.ahead ∙ told.2,
     )) c.read_rest.ensures.read
 
@@ -105,8 +109,10 @@ returns-in-Some-clause-stops g c =
     let top = ap (λ (w : WindowHeld). w.limit) c.new-window.ensures in
     let front = subst (λ t. IsTextFront t c.in-Some.field-0) c.ahead.ensures c.in-Some.ensures in
     IfErr-weaker c.read_rest.result _ _ (λ fault why.
-    rest_stops _ _ _ _ _ _ c.new-window.result c.fill.new.self c.pass.new.self c.args.limit c.in-Some.field-0.head c.in-Some.field-0.set.tasks fault none zero top c.in_ok-fill.ensures.fills c.pass.ensures.count
-    c.pass.ensures.limit c.in_ok-fill.ensures.later (λ more. front_gone c.fill.new.self.ahead [] c.pass.new.self.ahead more _ c.in-Some.field-0 front refl c.pass.ensures.ahead) why) c.read_rest.ensures.stops
+    rest_stops _ _ _ _ _ _ c.new-window.result c.fill.new.self c.pass.new.self c.args.limit c.in-Some.field-0.head c.in-Some.field-0.set.tasks fault none
+    zero top c.in_ok-fill.ensures.fills c.pass.ensures.count
+    c.pass.ensures.limit c.in_ok-fill.ensures.later (λ more. front_gone c.fill.new.self.ahead [] c.pass.new.self.ahead more _ c.in-Some.field-0 front refl
+    c.pass.ensures.ahead) why) c.read_rest.ensures.stops
 
 pub returns-in_err-fill_all-in-None-clause-stops : goal.returns-in_err-fill_all-in-None-clause-stops
 returns-in_err-fill_all-in-None-clause-stops g c =
@@ -122,5 +128,6 @@ returns-in_err-read_parts-in-None-clause-stops g c =
     let zero = ap (λ (w : WindowHeld). w.count) c.new-window.ensures in
     let top = ap (λ (w : WindowHeld). w.limit) c.new-window.ensures in
     let (fault, is, same) = err_from_is_err_and c.from_residual-in_err-read_parts-in-None.result c.from_residual-in_err-read_parts-in-None.ensures.1 in
-    let all = filled_rest _ _ _ c.new-window.result c.fill.new.self c.fill_all.new.self c.args.limit none zero top c.in_ok-fill.ensures.fills c.in_ok-fill_all-in-None.ensures.fills c.in_ok-fill_all-in-None.ensures.end in
+    let all = filled_rest _ _ _ c.new-window.result c.fill.new.self c.fill_all.new.self c.args.limit none zero top c.in_ok-fill.ensures.fills
+    c.in_ok-fill_all-in-None.ensures.fills c.in_ok-fill_all-in-None.ensures.end in
     rw (is, same) (held_stops _ _ _ _ c.args.limit _ _ all (rw c.ahead-in-None.ensures at c.in_err-read_parts-in-None.ensures.fault))

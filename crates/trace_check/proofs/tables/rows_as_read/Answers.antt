@@ -12,7 +12,8 @@ loop-p-init c =
     let new = c.in_ok-rows.ensures in (
       new.items,
       no_rows (vec_len c.in_ok-rows.rows) _ new.len,
-      room_is (length c.args.table.now.lanes) c.args.processors c.from.result c.rounds.result (rounds_in c.args.table.now.lanes) (vec_capacity c.in_ok-rows.rows) c.requires.processors c.from.ensures c.rounds.ensures.value new.exact,
+      room_is (length c.args.table.now.lanes) c.args.processors c.from.result c.rounds.result (rounds_in c.args.table.now.lanes)
+          (vec_capacity c.in_ok-rows.rows) c.requires.processors c.from.ensures c.rounds.ensures.value new.exact,
     )
 
 pub add_merged-requires-clause-lane : goal.add_merged-requires-clause-lane
@@ -22,7 +23,8 @@ pub add_merged-requires-clause-room : goal.add_merged-requires-clause-room
 add_merged-requires-clause-room c =
     let lanes = c.args.table.now.lanes in
     let within : c.loop-p.p < length lanes = subst (λ n. c.loop-p.p < n) (sym c.requires.processors) c.loop-p-test.true in
-    has_room (vec_len c.loop-p.rows) (rounds_in lanes) c.loop-p.p (length lanes) (rounds_in lanes) (vec_capacity c.loop-p.rows) c.loop-p.invariant.1 refl within c.loop-p.invariant.2
+    has_room (vec_len c.loop-p.rows) (rounds_in lanes) c.loop-p.p (length lanes) (rounds_in lanes) (vec_capacity c.loop-p.rows) c.loop-p.invariant.1 refl
+    within c.loop-p.invariant.2
 
 pub loop-p-preserved : goal.loop-p-preserved
 loop-p-preserved c =

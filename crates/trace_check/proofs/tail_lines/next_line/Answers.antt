@@ -7,4 +7,5 @@ pub returns-in-Some-clause-some : goal.returns-in-Some-clause-some
 returns-in-Some-clause-some c = cuts_whole c.args.ended c.args.text.now c.in-Some.line.now c.in-Some.later.now c.in-Some.ensures.line
 
 pub returns-then-not-is_empty-clause-some : goal.returns-then-not-is_empty-clause-some
-returns-then-not-is_empty-clause-some c = cuts_last c.args.ended c.args.text.now c.if-ended.true c.in-None.ensures.none (eqb-false _ _ (sym c.if-not-is_empty.ensures))
+returns-then-not-is_empty-clause-some c = cuts_last c.args.ended c.args.text.now c.if-ended.true c.in-None.ensures.none
+    (eqb-false _ _ (sym c.if-not-is_empty.ensures))

@@ -3,7 +3,8 @@ use Rattle.std.proofs.lemmas.Result.{IfOk-from_err, err_from_is_err_and}
 use Rattle.text_window.specs.Windows.{WindowHeld}
 use Rattle.trace_check.specs.Tails.{left_at, all_lines}
 use Rattle.trace_check.proofs.RestLemmas.{ends_or_less, later_on, left_less, left_no_more, passed_small, passed_within, twice_fits, twice_more_fits}
-use Rattle.trace_check.proofs.TailSourceLemmas.{TailGoing, not_begun, tail_none, tail_taken, set_now, set_other, taken_rest, tail_filled, tail_stops, tail_other, tail_all, tail_skipped, not_true_is}
+use Rattle.trace_check.proofs.TailSourceLemmas.{TailGoing, not_begun, tail_none, tail_taken, set_now, set_other, taken_rest, tail_filled, tail_stops}
+use Rattle.trace_check.proofs.TailSourceLemmas.{tail_other, tail_all, tail_skipped, not_true_is}
 use Rattle.trace_check.proofs.tail_reading.read_tail_on.Goals as goal
 
 -- few lines are left
@@ -15,21 +16,28 @@ gone_fits : (n m left next all : ℕ) → n + left ≡ all → m + next ≡ left
 gone_fits n m left next all sum more few = omega arith
 
 -- where the source may go on it went on before
-begun_not : (a b : Option (List ℕ)) (fa fb : ℕ) (begun now : Bool) (w u : WindowHeld) (all left : List (List ℕ)) (n : ℕ) → TailGoing a b fa fb begun now w u all n left → now ≡ false → begun ≡ false
+begun_not : (a b : Option (List ℕ)) (fa fb : ℕ) (begun now : Bool) (w u : WindowHeld) (all left : List (List ℕ)) (n : ℕ) → TailGoing a b fa fb begun now w u
+    all n left → now ≡ false → begun ≡ false
 begun_not a b fa fb begun now w u all left n g f = not_begun a b fa fb begun w u all left n (set_now a b fa fb begun now false w u all left n f g)
 
 pub loop-at_end-init : goal.loop-at_end-init
-loop-at_end-init g c = (tail_none _ _ c.args.ended c.args.window.now _ _ c.requires.end c.requires.within c.first-place.ensures.left, c.first-place.ensures.place)
+loop-at_end-init g c = (
+  tail_none _ _ c.args.ended c.args.window.now _ _ c.requires.end c.requires.within c.first-place.ensures.left,
+  c.first-place.ensures.place,
+)
 
 pub returns-then-taken-clause-read : goal.returns-then-taken-clause-read
 returns-then-taken-clause-read g c =
     let t = c.args.tail.now in
     let inv = c.loop-at_end.invariant in
     let taken = c.take-taken.result in
-    let going = tail_taken _ _ _ _ c.args.ended c.loop-at_end.at_end c.args.window.now c.loop-at_end.window c.pass.new.self (all_lines t) (left_at t c.loop-at_end.place) (left_at t taken.place) c.ahead.result.now
-    c.loop-at_end.count taken.count taken.gone inv.0 c.ahead.ensures c.take-taken.ensures.lines c.take-taken.ensures.count c.pass.ensures.ahead c.pass.ensures.count c.pass.ensures.limit in
+    let going = tail_taken _ _ _ _ c.args.ended c.loop-at_end.at_end c.args.window.now c.loop-at_end.window c.pass.new.self (all_lines t)
+    (left_at t c.loop-at_end.place) (left_at t taken.place) c.ahead.result.now
+    c.loop-at_end.count taken.count taken.gone inv.0 c.ahead.ensures c.take-taken.ensures.lines c.take-taken.ensures.count c.pass.ensures.ahead
+    c.pass.ensures.count c.pass.ensures.limit in
     let now = set_now _ _ _ _ _ _ true _ _ _ _ _ c.if-at_end.true going in
-    let other = set_other c.loop-at_end.at_end true (left_at t taken.place) c.ahead.result.now c.loop-at_end.window.ahead c.pass.new.self.ahead taken.gone c.if-at_end.true c.ahead.ensures c.pass.ensures.ahead
+    let other = set_other c.loop-at_end.at_end true (left_at t taken.place) c.ahead.result.now c.loop-at_end.window.ahead c.pass.new.self.ahead taken.gone
+    c.if-at_end.true c.ahead.ensures c.pass.ensures.ahead
     (c.take-taken.ensures.other c.if-taken.true) in
     tail_other _ _ _ _ _ _ _ _ _ _ now other
 
@@ -38,19 +46,24 @@ returns-else-taken-clause-read g c =
     let t = c.args.tail.now in
     let inv = c.loop-at_end.invariant in
     let taken = c.take-taken.result in
-    let going = tail_taken _ _ _ _ c.args.ended c.loop-at_end.at_end c.args.window.now c.loop-at_end.window c.pass.new.self (all_lines t) (left_at t c.loop-at_end.place) (left_at t taken.place) c.ahead.result.now
-    c.loop-at_end.count taken.count taken.gone inv.0 c.ahead.ensures c.take-taken.ensures.lines c.take-taken.ensures.count c.pass.ensures.ahead c.pass.ensures.count c.pass.ensures.limit in
+    let going = tail_taken _ _ _ _ c.args.ended c.loop-at_end.at_end c.args.window.now c.loop-at_end.window c.pass.new.self (all_lines t)
+    (left_at t c.loop-at_end.place) (left_at t taken.place) c.ahead.result.now
+    c.loop-at_end.count taken.count taken.gone inv.0 c.ahead.ensures c.take-taken.ensures.lines c.take-taken.ensures.count c.pass.ensures.ahead
+    c.pass.ensures.count c.pass.ensures.limit in
     let now = set_now _ _ _ _ _ _ true _ _ _ _ _ c.if-at_end.true going in
     let over = c.take-taken.ensures.all c.if-at_end.true c.if-taken.false in
-    tail_all _ _ _ _ _ _ _ _ _ _ now over.0 (sym (taken_rest c.ahead.result.now c.loop-at_end.window.ahead c.pass.new.self.ahead taken.gone c.ahead.ensures c.pass.ensures.ahead) ∙ over.1)
+    tail_all _ _ _ _ _ _ _ _ _ _ now over.0 (sym (taken_rest c.ahead.result.now c.loop-at_end.window.ahead c.pass.new.self.ahead taken.gone c.ahead.ensures
+    c.pass.ensures.ahead) ∙ over.1)
 
 pub returns-in_err-skip_all-clause-stops : goal.returns-in_err-skip_all-clause-stops
 returns-in_err-skip_all-clause-stops g c =
     let t = c.args.tail.now in
     let inv = c.loop-at_end.invariant in
     let taken = c.take-taken.result in
-    let going = tail_taken _ _ _ _ c.args.ended c.loop-at_end.at_end c.args.window.now c.loop-at_end.window c.pass.new.self (all_lines t) (left_at t c.loop-at_end.place) (left_at t taken.place) c.ahead.result.now
-    c.loop-at_end.count taken.count taken.gone inv.0 c.ahead.ensures c.take-taken.ensures.lines c.take-taken.ensures.count c.pass.ensures.ahead c.pass.ensures.count c.pass.ensures.limit in
+    let going = tail_taken _ _ _ _ c.args.ended c.loop-at_end.at_end c.args.window.now c.loop-at_end.window c.pass.new.self (all_lines t)
+    (left_at t c.loop-at_end.place) (left_at t taken.place) c.ahead.result.now
+    c.loop-at_end.count taken.count taken.gone inv.0 c.ahead.ensures c.take-taken.ensures.lines c.take-taken.ensures.count c.pass.ensures.ahead
+    c.pass.ensures.count c.pass.ensures.limit in
     let now = set_now _ _ _ _ _ _ false _ _ _ _ _ c.if-at_end.false going in
     let (fault, is, same) = err_from_is_err_and c.from_residual.result c.from_residual.ensures.1 in
     rw (is, same) (tail_stops _ _ _ _ _ _ _ _ _ _ _ _ _ now c.in_err-skip_all.ensures.stops)
@@ -60,10 +73,13 @@ returns-then-taken-2-clause-read g c =
     let t = c.args.tail.now in
     let inv = c.loop-at_end.invariant in
     let taken = c.take-taken.result in
-    let going = tail_taken _ _ _ _ c.args.ended c.loop-at_end.at_end c.args.window.now c.loop-at_end.window c.pass.new.self (all_lines t) (left_at t c.loop-at_end.place) (left_at t taken.place) c.ahead.result.now
-    c.loop-at_end.count taken.count taken.gone inv.0 c.ahead.ensures c.take-taken.ensures.lines c.take-taken.ensures.count c.pass.ensures.ahead c.pass.ensures.count c.pass.ensures.limit in
+    let going = tail_taken _ _ _ _ c.args.ended c.loop-at_end.at_end c.args.window.now c.loop-at_end.window c.pass.new.self (all_lines t)
+    (left_at t c.loop-at_end.place) (left_at t taken.place) c.ahead.result.now
+    c.loop-at_end.count taken.count taken.gone inv.0 c.ahead.ensures c.take-taken.ensures.lines c.take-taken.ensures.count c.pass.ensures.ahead
+    c.pass.ensures.count c.pass.ensures.limit in
     let now = set_now _ _ _ _ _ _ false _ _ _ _ _ c.if-at_end.false going in
-    let other = set_other c.loop-at_end.at_end false (left_at t taken.place) c.ahead.result.now c.loop-at_end.window.ahead c.pass.new.self.ahead taken.gone c.if-at_end.false c.ahead.ensures c.pass.ensures.ahead
+    let other = set_other c.loop-at_end.at_end false (left_at t taken.place) c.ahead.result.now c.loop-at_end.window.ahead c.pass.new.self.ahead taken.gone
+    c.if-at_end.false c.ahead.ensures c.pass.ensures.ahead
     (c.take-taken.ensures.other c.if-taken-2.true) in
     tail_skipped _ _ _ _ _ _ _ _ _ _ _ now other (c.in_ok-skip_all.ensures.rest.0, c.in_ok-skip_all.ensures.rest.1)
 
@@ -72,8 +88,10 @@ returns-in_err-at_end-clause-stops g c =
     let t = c.args.tail.now in
     let inv = c.loop-at_end.invariant in
     let taken = c.take-taken.result in
-    let going = tail_taken _ _ _ _ c.args.ended c.loop-at_end.at_end c.args.window.now c.loop-at_end.window c.pass.new.self (all_lines t) (left_at t c.loop-at_end.place) (left_at t taken.place) c.ahead.result.now
-    c.loop-at_end.count taken.count taken.gone inv.0 c.ahead.ensures c.take-taken.ensures.lines c.take-taken.ensures.count c.pass.ensures.ahead c.pass.ensures.count c.pass.ensures.limit in
+    let going = tail_taken _ _ _ _ c.args.ended c.loop-at_end.at_end c.args.window.now c.loop-at_end.window c.pass.new.self (all_lines t)
+    (left_at t c.loop-at_end.place) (left_at t taken.place) c.ahead.result.now
+    c.loop-at_end.count taken.count taken.gone inv.0 c.ahead.ensures c.take-taken.ensures.lines c.take-taken.ensures.count c.pass.ensures.ahead
+    c.pass.ensures.count c.pass.ensures.limit in
     let now = set_now _ _ _ _ _ _ false _ _ _ _ _ c.if-at_end.false going in
     let (fault, is, same) = err_from_is_err_and c.from_residual-in_err-at_end.result c.from_residual-in_err-at_end.ensures.1 in
     rw (is, same) (tail_stops _ _ _ _ _ _ _ _ _ _ _ _ _ now c.in_err-at_end.ensures.stops)
@@ -83,10 +101,13 @@ loop-at_end-preserved g c =
     let t = c.args.tail.now in
     let inv = c.loop-at_end.invariant in
     let taken = c.take-taken.result in
-    let going = tail_taken _ _ _ _ c.args.ended c.loop-at_end.at_end c.args.window.now c.loop-at_end.window c.pass.new.self (all_lines t) (left_at t c.loop-at_end.place) (left_at t taken.place) c.ahead.result.now
-    c.loop-at_end.count taken.count taken.gone inv.0 c.ahead.ensures c.take-taken.ensures.lines c.take-taken.ensures.count c.pass.ensures.ahead c.pass.ensures.count c.pass.ensures.limit in
+    let going = tail_taken _ _ _ _ c.args.ended c.loop-at_end.at_end c.args.window.now c.loop-at_end.window c.pass.new.self (all_lines t)
+    (left_at t c.loop-at_end.place) (left_at t taken.place) c.ahead.result.now
+    c.loop-at_end.count taken.count taken.gone inv.0 c.ahead.ensures c.take-taken.ensures.lines c.take-taken.ensures.count c.pass.ensures.ahead
+    c.pass.ensures.count c.pass.ensures.limit in
     let now = set_now _ _ _ _ _ _ false _ _ _ _ _ c.if-at_end.false going in (
-      tail_filled _ _ _ _ _ _ _ (not c.in_ok-at_end.field-0) _ _ _ _ _ _ now c.in_ok-at_end.ensures.fills c.in_ok-at_end.ensures.later (λ e. c.in_ok-at_end.ensures.end (not_true_is c.in_ok-at_end.field-0 e)),
+      tail_filled _ _ _ _ _ _ _ (not c.in_ok-at_end.field-0) _ _ _ _ _ _ now c.in_ok-at_end.ensures.fills c.in_ok-at_end.ensures.later
+          (λ e. c.in_ok-at_end.ensures.end (not_true_is c.in_ok-at_end.field-0 e)),
       c.take-taken.ensures.place,
     )
 
@@ -161,5 +182,7 @@ loop-at_end-smaller g c =
     let passed = c.pass.new.self in
     let new = c.fill.new.self in
     let filled = c.in_ok-at_end.ensures.fills in
-    ends_or_less _ _ c.loop-at_end.at_end c.in_ok-at_end.field-0 c.if-at_end.false (left_no_more old passed new filled.more c.pass.ensures.count c.pass.ensures.limit filled.count filled.limit)
-    (λ on. left_less old passed new _ filled.more c.pass.ensures.count c.pass.ensures.limit c.ahead-in-loop-at_end.ensures filled.ahead filled.count filled.limit filled.within (c.in_ok-at_end.ensures.more on))
+    ends_or_less _ _ c.loop-at_end.at_end c.in_ok-at_end.field-0 c.if-at_end.false (left_no_more old passed new filled.more c.pass.ensures.count
+    c.pass.ensures.limit filled.count filled.limit)
+    (λ on. left_less old passed new _ filled.more c.pass.ensures.count c.pass.ensures.limit c.ahead-in-loop-at_end.ensures filled.ahead filled.count
+    filled.limit filled.within (c.in_ok-at_end.ensures.more on))

@@ -16,7 +16,34 @@ is_ten : (n : ℕ) → 1 ≤ n → n ≤ 1_000_000_000 → IsTen n
 is_ten n some most = record { some = some; most = most }
 
 are_tens : AllByRecursion IsTen tens
-are_tens = (is_ten 1 (omega arith) (omega arith), (is_ten 10 (omega arith) (omega arith), (is_ten 100 (omega arith) (omega arith), (is_ten 1000 (omega arith) (omega arith), (is_ten 10_000 (omega arith) (omega arith), (is_ten 100_000 (omega arith) (omega arith), (is_ten 1_000_000 (omega arith) (omega arith), (is_ten 10_000_000 (omega arith) (omega arith), (is_ten 100_000_000 (omega arith) (omega arith), (is_ten 1_000_000_000 (omega arith) (omega arith), tt))))))))))
+are_tens = (
+  is_ten 1 (omega arith) (omega arith),
+  (
+    is_ten 10 (omega arith) (omega arith),
+    (
+      is_ten 100 (omega arith) (omega arith),
+      (
+        is_ten 1000 (omega arith) (omega arith),
+        (
+          is_ten 10_000 (omega arith) (omega arith),
+          (
+            is_ten 100_000 (omega arith) (omega arith),
+            (
+              is_ten 1_000_000 (omega arith) (omega arith),
+              (
+                is_ten 10_000_000 (omega arith) (omega arith),
+                (
+                  is_ten 100_000_000 (omega arith) (omega arith),
+                  (is_ten 1_000_000_000 (omega arith) (omega arith), tt),
+                ),
+              ),
+            ),
+          ),
+        ),
+      ),
+    ),
+  ),
+)
 
 ten_at : (i ten : ℕ) → i < length tens → ten ≡ get_or tens i 0 → IsTen ten
 ten_at i ten h is = subst IsTen (sym is) (all_get IsTen tens i 0 are_tens h)
@@ -60,17 +87,20 @@ returns-then-units-ten-clause-value c =
 pub returns-then-units-ten-2-clause-value : goal.returns-then-units-ten-2-clause-value
 unfolding axis_step
 returns-then-units-ten-2-clause-value c =
-    sym (step_second tens c.loop-ten.ten-index c.from-ten.result c.args.units c.loop-ten-test.true c.from-ten.ensures c.if-units-ten.false c.if-units-ten-2.true) ∙ c.loop-ten.invariant
+    sym (step_second tens c.loop-ten.ten-index c.from-ten.result c.args.units c.loop-ten-test.true c.from-ten.ensures c.if-units-ten.false
+    c.if-units-ten-2.true) ∙ c.loop-ten.invariant
 
 pub returns-then-units-ten-3-clause-value : goal.returns-then-units-ten-3-clause-value
 unfolding axis_step
 returns-then-units-ten-3-clause-value c =
-    sym (step_third tens c.loop-ten.ten-index c.from-ten.result c.args.units c.loop-ten-test.true c.from-ten.ensures c.if-units-ten.false c.if-units-ten-2.false c.if-units-ten-3.true) ∙ c.loop-ten.invariant
+    sym (step_third tens c.loop-ten.ten-index c.from-ten.result c.args.units c.loop-ten-test.true c.from-ten.ensures c.if-units-ten.false
+    c.if-units-ten-2.false c.if-units-ten-3.true) ∙ c.loop-ten.invariant
 
 pub loop-ten-preserved : goal.loop-ten-preserved
 loop-ten-preserved c =
     let tens : List ℕ = 1 ∷ 10 ∷ 100 ∷ 1000 ∷ 10_000 ∷ 100_000 ∷ 1_000_000 ∷ 10_000_000 ∷ 100_000_000 ∷ 1_000_000_000 ∷ [] in
-    sym (step_next tens c.loop-ten.ten-index c.from-ten.result c.args.units c.loop-ten-test.true c.from-ten.ensures c.if-units-ten.false c.if-units-ten-2.false c.if-units-ten-3.false)
+    sym (step_next tens c.loop-ten.ten-index c.from-ten.result c.args.units c.loop-ten-test.true c.from-ten.ensures c.if-units-ten.false
+    c.if-units-ten-2.false c.if-units-ten-3.false)
     ∙ c.loop-ten.invariant
 
 pub overflow_mul-ten : goal.overflow_mul-ten

@@ -40,15 +40,32 @@ returns-in_err-write_lines-clause-wrote g c =
     let step = axis_step w.units in
     let count = rw c.axis_step-step.ensures.value at c.mark_count-i-end.ensures in
     let below : c.loop-i.i < mark_count w step = omega (arith, c.loop-i-test.true, count) in
-    let wrote = rw (c.mark_lines.ensures, c.place-at.ensures.value, c.from.ensures, c.bottom-end.ensures.value, c.first_mark-first.ensures, c.axis_step-step.ensures.value) at c.in_err-write_lines.ensures.wrote in
+    let wrote = rw (
+      c.mark_lines.ensures,
+      c.place-at.ensures.value,
+      c.from.ensures,
+      c.bottom-end.ensures.value,
+      c.first_mark-first.ensures,
+      c.axis_step-step.ensures.value,
+    ) at c.in_err-write_lines.ensures.wrote in
     wrote_number (mark_of c.args.set.now w step) (mark_count w step) c.loop-i.i _ _ _ _ _ below c.loop-i.invariant.0 wrote c.from_residual.ensures.0
 
 pub loop-i-preserved : goal.loop-i-preserved
 loop-i-preserved g c =
     let w = c.args.window.now in
     let step = axis_step w.units in
-    let wrote = rw (c.mark_lines.ensures, c.place-at.ensures.value, c.from.ensures, c.bottom-end.ensures.value, c.first_mark-first.ensures, c.axis_step-step.ensures.value) at c.in_ok-write_lines.ensures.wrote in
-    (number_written (mark_of c.args.set.now w step) c.loop-i.i _ _ _ c.loop-i.invariant.0 wrote.ok, le_trans c.loop-i.invariant.1 c.write_lines.ensures.cause.later)
+    let wrote = rw (
+      c.mark_lines.ensures,
+      c.place-at.ensures.value,
+      c.from.ensures,
+      c.bottom-end.ensures.value,
+      c.first_mark-first.ensures,
+      c.axis_step-step.ensures.value,
+    ) at c.in_ok-write_lines.ensures.wrote in (
+      number_written (mark_of c.args.set.now w step) c.loop-i.i _ _ _ c.loop-i.invariant.0 wrote.ok,
+      le_trans c.loop-i.invariant.1
+          c.write_lines.ensures.cause.later,
+    )
 
 pub returns-in_err-write_lines-clause-cause : goal.returns-in_err-write_lines-clause-cause
 returns-in_err-write_lines-clause-cause g c = cause_cut _ _ _ _ _ c.loop-i.invariant.1 c.in_err-write_lines.ensures.cause
@@ -89,7 +106,8 @@ overflow_add-unit g c =
     let step = c.axis_step-step.result in
     let first = c.first_mark-first.result in
     let below : c.loop-i.i < (w.from + w.units) / step + 1 - first
-    = subst (λ f. c.loop-i.i < (w.from + w.units) / step + 1 - f) (sym c.first_mark-first.ensures) (subst (λ m. c.loop-i.i < m) c.mark_count-i-end.ensures c.loop-i-test.true) in
+    = subst (λ f. c.loop-i.i < (w.from + w.units) / step + 1 - f) (sym c.first_mark-first.ensures) (subst (λ m. c.loop-i.i < m) c.mark_count-i-end.ensures
+    c.loop-i-test.true) in
     number_fits (w.from + w.units) step first c.loop-i.i c.axis_step-step.ensures.some c.requires.fits below
 
 pub overflow_mul-unit : goal.overflow_mul-unit
@@ -98,7 +116,8 @@ overflow_mul-unit g c =
     let step = c.axis_step-step.result in
     let first = c.first_mark-first.result in
     let below : c.loop-i.i < (w.from + w.units) / step + 1 - first
-    = subst (λ f. c.loop-i.i < (w.from + w.units) / step + 1 - f) (sym c.first_mark-first.ensures) (subst (λ m. c.loop-i.i < m) c.mark_count-i-end.ensures c.loop-i-test.true) in
+    = subst (λ f. c.loop-i.i < (w.from + w.units) / step + 1 - f) (sym c.first_mark-first.ensures) (subst (λ m. c.loop-i.i < m) c.mark_count-i-end.ensures
+    c.loop-i-test.true) in
     unit_fits (w.from + w.units) step first c.loop-i.i c.requires.fits below
 
 pub overflow_mul-from : goal.overflow_mul-from
@@ -107,5 +126,6 @@ overflow_mul-from g c =
     let step = c.axis_step-step.result in
     let first = c.first_mark-first.result in
     let below : c.loop-i.i < (w.from + w.units) / step + 1 - first
-    = subst (λ f. c.loop-i.i < (w.from + w.units) / step + 1 - f) (sym c.first_mark-first.ensures) (subst (λ m. c.loop-i.i < m) c.mark_count-i-end.ensures c.loop-i-test.true) in
+    = subst (λ f. c.loop-i.i < (w.from + w.units) / step + 1 - f) (sym c.first_mark-first.ensures) (subst (λ m. c.loop-i.i < m) c.mark_count-i-end.ensures
+    c.loop-i-test.true) in
     tick_fits (w.from + w.units) step first c.loop-i.i w.scale _ c.requires.fits c.requires.scale_fits below c.from.ensures

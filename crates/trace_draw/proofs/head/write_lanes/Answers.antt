@@ -18,12 +18,20 @@ returns-in_err-write_lines-clause-wrote g c =
 pub loop-processor-preserved : goal.loop-processor-preserved
 loop-processor-preserved g c =
     let p = c.loop-processor.processor in
-    let wrote = rw c.lane_lines.ensures at c.in_ok-write_lines.ensures.wrote in
-    (number_written (λ (n : ℕ). concat (lane_lines n)) p _ _ _ c.loop-processor.invariant.0 wrote.ok, le_trans c.loop-processor.invariant.1 c.write_lines.ensures.cause.later)
+    let wrote = rw c.lane_lines.ensures at c.in_ok-write_lines.ensures.wrote in (
+      number_written (λ (n : ℕ). concat (lane_lines n)) p _ _ _ c.loop-processor.invariant.0 wrote.ok,
+      le_trans c.loop-processor.invariant.1
+          c.write_lines.ensures.cause.later,
+    )
 
 pub returns-clause-wrote : goal.returns-clause-wrote
 returns-clause-wrote g c =
-    let all : c.loop-processor.processor ≡ c.args.set.now.processors = omega (arith, c.loop-processor-test.false, c.loop-processor.auto.processor-end, c.processors-processor-end.ensures.value) in
+    let all : c.loop-processor.processor ≡ c.args.set.now.processors = omega (
+      arith,
+      c.loop-processor-test.false,
+      c.loop-processor.auto.processor-end,
+      c.processors-processor-end.ensures.value,
+    ) in
     record { ok = rw all at c.loop-processor.invariant.0; err = tt }
 
 pub returns-in_err-write_lines-clause-cause : goal.returns-in_err-write_lines-clause-cause

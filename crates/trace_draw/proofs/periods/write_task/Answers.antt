@@ -12,14 +12,16 @@ returns-in_err-write_lines-clause-wrote g c =
     let t = c.args.scene.now.trace.now in
     let j = c.args.task in
     let titles = rw (c.title_lines.ensures, c.task_top-top.ensures.value, c.processors.ensures.value, c.set.ensures) at c.in_err-write_lines.ensures.wrote in
-    wrote_cut _ _ (concat (title_lines t c.args.scene.now.verdict j (task_top t.set.processors j))) (marks_text t c.args.scene.now.window.now j) _ _ titles c.from_residual.ensures.0
+    wrote_cut _ _ (concat (title_lines t c.args.scene.now.verdict j (task_top t.set.processors j))) (marks_text t c.args.scene.now.window.now j) _ _ titles
+    c.from_residual.ensures.0
 
 pub returns-clause-wrote : goal.returns-clause-wrote
 returns-clause-wrote g c =
     let t = c.args.scene.now.trace.now in
     let j = c.args.task in
     let titles = rw (c.title_lines.ensures, c.task_top-top.ensures.value, c.processors.ensures.value, c.set.ensures) at c.in_ok-write_lines.ensures.wrote in
-    wrote_then _ _ _ (concat (title_lines t c.args.scene.now.verdict j (task_top t.set.processors j))) (marks_text t c.args.scene.now.window.now j) _ _ titles c.write_marks.ensures.wrote
+    wrote_then _ _ _ (concat (title_lines t c.args.scene.now.verdict j (task_top t.set.processors j))) (marks_text t c.args.scene.now.window.now j) _ _
+    titles c.write_marks.ensures.wrote
 
 pub returns-in_err-write_lines-clause-cause : goal.returns-in_err-write_lines-clause-cause
 returns-in_err-write_lines-clause-cause g c = cause_cut _ _ _ _ _ (le_refl _) c.in_err-write_lines.ensures.cause

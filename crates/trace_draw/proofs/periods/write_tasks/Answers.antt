@@ -12,12 +12,14 @@ returns-in_err-write_task-clause-wrote g c =
     let t = c.args.scene.now.trace.now in
     let j = c.loop-task.task in
     let below : j < length t.set.tasks = omega (arith, c.loop-task-test.true, c.count-task-end.ensures.value, ap (λ s. length s.tasks) c.set.ensures) in
-    wrote_number (task_text t c.args.scene.now.window.now c.args.scene.now.verdict) (length t.set.tasks) j _ _ _ _ _ below c.loop-task.invariant.0 c.in_err-write_task.ensures.wrote
+    wrote_number (task_text t c.args.scene.now.window.now c.args.scene.now.verdict) (length t.set.tasks) j _ _ _ _ _ below c.loop-task.invariant.0
+    c.in_err-write_task.ensures.wrote
     c.from_residual.ensures.0
 
 pub loop-task-preserved : goal.loop-task-preserved
 loop-task-preserved g c = (
-  number_written (task_text c.args.scene.now.trace.now c.args.scene.now.window.now c.args.scene.now.verdict) c.loop-task.task _ _ _ c.loop-task.invariant.0 c.in_ok-write_task.ensures.wrote.ok,
+  number_written (task_text c.args.scene.now.trace.now c.args.scene.now.window.now c.args.scene.now.verdict) c.loop-task.task _ _ _ c.loop-task.invariant.0
+      c.in_ok-write_task.ensures.wrote.ok,
   le_trans c.loop-task.invariant.1 c.write_task.ensures.cause.later,
 )
 

@@ -10,7 +10,8 @@ returns-in_err-write_head-clause-wrote g c =
     let s = c.args.scene.now.trace.now.set in
     let w = c.args.scene.now.window.now in
     let head = rw (c.set-set.ensures, c.as_slice.ensures.bytes, c.hint_text-hint.ensures.text) at c.in_err-write_head.ensures.wrote in
-    wrote_cut _ _ (head_text s w c.args.scene.now.verdict (hint_text c.args.scene.now.trace.now w)) (lanes_text s ++ axis_text s w) _ _ head c.from_residual.ensures.0
+    wrote_cut _ _ (head_text s w c.args.scene.now.verdict (hint_text c.args.scene.now.trace.now w)) (lanes_text s ++ axis_text s w) _ _ head
+    c.from_residual.ensures.0
 
 pub returns-in_err-write_lanes-clause-wrote : goal.returns-in_err-write_lanes-clause-wrote
 returns-in_err-write_lanes-clause-wrote g c =
@@ -28,7 +29,8 @@ returns-clause-wrote g c =
     let head = rw (c.set-set.ensures, c.as_slice.ensures.bytes, c.hint_text-hint.ensures.text) at c.in_ok-write_head.ensures.wrote in
     let lanes = rw c.set-set.ensures at c.in_ok-write_lanes.ensures.wrote in
     let axis = rw c.set-set.ensures at c.write_axis.ensures.wrote in
-    wrote_then _ _ _ (head_text s w c.args.scene.now.verdict (hint_text c.args.scene.now.trace.now w)) (lanes_text s ++ axis_text s w) _ _ head (wrote_then _ _ _ (lanes_text s) (axis_text s w) _ _ lanes axis)
+    wrote_then _ _ _ (head_text s w c.args.scene.now.verdict (hint_text c.args.scene.now.trace.now w)) (lanes_text s ++ axis_text s w) _ _ head
+    (wrote_then _ _ _ (lanes_text s) (axis_text s w) _ _ lanes axis)
 
 pub returns-in_err-write_head-clause-cause : goal.returns-in_err-write_head-clause-cause
 returns-in_err-write_head-clause-cause g c = cause_cut _ _ _ _ _ (le_refl _) c.in_err-write_head.ensures.cause

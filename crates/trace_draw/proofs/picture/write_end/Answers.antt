@@ -12,7 +12,8 @@ pub returns-in_err-write_fault-clause-wrote : goal.returns-in_err-write_fault-cl
 returns-in_err-write_fault-clause-wrote g c =
     let t = c.args.scene.now.trace.now in
     let w = c.args.scene.now.window.now in
-    wrote_cut _ _ (fault_text t w c.args.scene.now.verdict) (rows_text Words t.set w t.rows ++ concat (closing_lines t.set)) _ _ c.in_err-write_fault.ensures.wrote
+    wrote_cut _ _ (fault_text t w c.args.scene.now.verdict) (rows_text Words t.set w t.rows ++ concat (closing_lines t.set)) _ _
+    c.in_err-write_fault.ensures.wrote
     c.from_residual.ensures.0
 
 pub returns-in_err-write_rows-clause-wrote : goal.returns-in_err-write_rows-clause-wrote
@@ -20,7 +21,8 @@ returns-in_err-write_rows-clause-wrote g c =
     let t = c.args.scene.now.trace.now in
     let w = c.args.scene.now.window.now in
     let words = rows_wrote _ _ Words w t.set _ t.rows _ _ c.set.ensures c.rows.ensures.value c.in_err-write_rows.ensures.wrote in
-    wrote_then _ _ _ (fault_text t w c.args.scene.now.verdict) (rows_text Words t.set w t.rows ++ concat (closing_lines t.set)) _ _ c.in_ok-write_fault.ensures.wrote
+    wrote_then _ _ _ (fault_text t w c.args.scene.now.verdict) (rows_text Words t.set w t.rows ++ concat (closing_lines t.set)) _ _
+    c.in_ok-write_fault.ensures.wrote
     (wrote_cut _ _ (rows_text Words t.set w t.rows) (concat (closing_lines t.set)) _ _ words c.from_residual-in_err-write_rows.ensures.0)
 
 pub returns-clause-wrote : goal.returns-clause-wrote
@@ -29,7 +31,8 @@ returns-clause-wrote g c =
     let w = c.args.scene.now.window.now in
     let words = rows_wrote _ _ Words w t.set _ t.rows _ _ c.set.ensures c.rows.ensures.value c.in_ok-write_rows.ensures.wrote in
     let closing = rw c.set-2.ensures at c.write_closing.ensures.wrote in
-    wrote_then _ _ _ (fault_text t w c.args.scene.now.verdict) (rows_text Words t.set w t.rows ++ concat (closing_lines t.set)) _ _ c.in_ok-write_fault.ensures.wrote
+    wrote_then _ _ _ (fault_text t w c.args.scene.now.verdict) (rows_text Words t.set w t.rows ++ concat (closing_lines t.set)) _ _
+    c.in_ok-write_fault.ensures.wrote
     (wrote_then _ _ _ (rows_text Words t.set w t.rows) (concat (closing_lines t.set)) _ _ words closing)
 
 pub returns-in_err-write_fault-clause-cause : goal.returns-in_err-write_fault-clause-cause

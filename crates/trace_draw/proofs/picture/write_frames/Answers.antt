@@ -34,14 +34,16 @@ span-width-requires g c = c.requires.window
 
 pub offset_bounds-rows-i : goal.offset_bounds-rows-i
 offset_bounds-rows-i g c =
-    offset_fits c.args.i (length c.args.scene.now.trace.now.rows) (subst (λ (rows : List Row). c.args.i < length rows) c.rows-rows.ensures.value c.if-i-rows.false) c.rows-rows.ensures.lawful.few
+    offset_fits c.args.i (length c.args.scene.now.trace.now.rows) (subst (λ (rows : List Row). c.args.i < length rows) c.rows-rows.ensures.value
+    c.if-i-rows.false) c.rows-rows.ensures.lawful.few
 
 pub bounds-rows-i : goal.bounds-rows-i
 bounds-rows-i g c = c.if-i-rows.false
 
 pub returns-then-not-reaches-clause-wrote : goal.returns-then-not-reaches-clause-wrote
 returns-then-not-reaches-clause-wrote g c =
-    rw (framed_apart c.args.scene.now.trace.now c.args.scene.now.window.now c.rows-rows.result.now c.args.i c.reaches.result c.rows-rows.ensures.value c.reaches.ensures c.if-not-reaches.true) (wrote_none _ _)
+    rw (framed_apart c.args.scene.now.trace.now c.args.scene.now.window.now c.rows-rows.result.now c.args.i c.reaches.result c.rows-rows.ensures.value
+    c.reaches.ensures c.if-not-reaches.true) (wrote_none _ _)
 
 pub returns-clause-wrote : goal.returns-clause-wrote
 returns-clause-wrote g c =

@@ -14,7 +14,8 @@ returns-in_err-write_base-clause-wrote g c =
     let t = c.args.trace.now in
     let w = c.args.window.now in
     let v = c.args.verdict in
-    wrote_cut _ _ (base_text t w v) (rows_text Boxes t.set w t.rows ++ (tasks_text t w v ++ end_text t w v)) _ _ c.in_err-write_base.ensures.wrote c.from_residual.ensures.0
+    wrote_cut _ _ (base_text t w v) (rows_text Boxes t.set w t.rows ++ (tasks_text t w v ++ end_text t w v)) _ _ c.in_err-write_base.ensures.wrote
+    c.from_residual.ensures.0
 
 pub returns-in_err-write_rows-clause-wrote : goal.returns-in_err-write_rows-clause-wrote
 unfolding picture
@@ -55,7 +56,9 @@ pub returns-in_err-write_rows-clause-cause : goal.returns-in_err-write_rows-clau
 returns-in_err-write_rows-clause-cause g c = cause_cut _ _ _ _ _ c.write_base.ensures.cause.later c.in_err-write_rows.ensures.cause
 
 pub returns-in_err-write_tasks-clause-cause : goal.returns-in_err-write_tasks-clause-cause
-returns-in_err-write_tasks-clause-cause g c = cause_cut _ _ _ _ _ (le_trans c.write_base.ensures.cause.later c.write_rows.ensures.cause.later) c.in_err-write_tasks.ensures.cause
+returns-in_err-write_tasks-clause-cause g c = cause_cut _ _ _ _ _ (le_trans c.write_base.ensures.cause.later c.write_rows.ensures.cause.later)
+    c.in_err-write_tasks.ensures.cause
 
 pub returns-clause-cause : goal.returns-clause-cause
-returns-clause-cause g c = cause_then _ _ _ _ (le_trans (le_trans c.write_base.ensures.cause.later c.write_rows.ensures.cause.later) c.write_tasks.ensures.cause.later) c.write_end.ensures.cause
+returns-clause-cause g c = cause_then _ _ _ _ (le_trans (le_trans c.write_base.ensures.cause.later c.write_rows.ensures.cause.later)
+    c.write_tasks.ensures.cause.later) c.write_end.ensures.cause

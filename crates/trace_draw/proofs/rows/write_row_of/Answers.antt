@@ -21,12 +21,14 @@ words_lines-requires-clause-width g c = c.span-width.ensures.within
 
 pub returns-in-Boxes-clause-wrote : goal.returns-in-Boxes-clause-wrote
 returns-in-Boxes-clause-wrote g c =
-    boxes_wrote _ _ c.args.part c.args.set.now c.args.window.now c.args.task c.args.row.now c.place-x.result c.span-width.result c.boxes_lines.result _ c.in-Boxes.is c.place-x.ensures.value c.span-width.ensures.value
+    boxes_wrote _ _ c.args.part c.args.set.now c.args.window.now c.args.task c.args.row.now c.place-x.result c.span-width.result c.boxes_lines.result _
+    c.in-Boxes.is c.place-x.ensures.value c.span-width.ensures.value
     c.boxes_lines.ensures c.write_lines.ensures.wrote
 
 pub returns-in-Words-clause-wrote : goal.returns-in-Words-clause-wrote
 returns-in-Words-clause-wrote g c =
-    words_wrote _ _ c.args.part c.args.set.now c.args.window.now c.args.task c.args.row.now c.place-x.result c.span-width.result c.words_lines.result _ c.in-Words.is c.place-x.ensures.value c.span-width.ensures.value
+    words_wrote _ _ c.args.part c.args.set.now c.args.window.now c.args.task c.args.row.now c.place-x.result c.span-width.result c.words_lines.result _
+    c.in-Words.is c.place-x.ensures.value c.span-width.ensures.value
     c.words_lines.ensures c.write_lines-in-Words.ensures.wrote
 
 pub returns-in-Boxes-clause-cause : goal.returns-in-Boxes-clause-cause

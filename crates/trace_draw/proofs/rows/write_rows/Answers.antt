@@ -6,7 +6,8 @@ use Rattle.trace_verdict.specs.Faults.{row_at}
 use Rattle.sched_edges.proofs.CauseLemmas.{cause_cut, took_none}
 use Rattle.trace_draw.proofs.RowLemmas.{next_drawn, count_next, count_past, count_full, all_drawn, trace_row_at}
 use Rattle.trace_draw.proofs.rows.write_rows.Goals.{then-drawn-lt-MOST_DRAWN+then-reaches+in_ok-write_row, else-drawn-lt-MOST_DRAWN}
-use Rattle.trace_draw.proofs.rows.write_rows.Goals.{else-drawn-lt-MOST_DRAWN-via-then-drawn-lt-MOST_DRAWN+else-reaches, else-drawn-lt-MOST_DRAWN-via-else-drawn-lt-MOST_DRAWN}
+use Rattle.trace_draw.proofs.rows.write_rows.Goals.{else-drawn-lt-MOST_DRAWN-via-then-drawn-lt-MOST_DRAWN+else-reaches}
+use Rattle.trace_draw.proofs.rows.write_rows.Goals.{else-drawn-lt-MOST_DRAWN-via-else-drawn-lt-MOST_DRAWN}
 use Rattle.trace_draw.proofs.rows.write_rows.Goals as goal
 use Rattle.trace_draw.proofs.Parts.{drawn_rows, row_text}
 
@@ -19,8 +20,10 @@ returns-in_err-write_row-clause-wrote g c =
     let w = c.args.window.now in
     let i = c.loop-row.row-index in
     let at = get_or_default rows i (record { processor = 0; start = 0; end = 0; leaf = leaves.Task (record { 0 = 0 }) }) (row_at rows i) c.loop-row-test.true in
-    let next = next_drawn w rows i c.loop-row.drawn (row_at rows i) c.loop-row-test.true at (sym c.reaches.ensures ∙ c.if-reaches.true) c.loop-row.invariant.1 c.if-drawn-lt-MOST_DRAWN.true in
-    wrote_item (row_text c.args.part c.args.set.now w) (drawn_rows w rows) c.loop-row.drawn (row_at rows i) _ _ _ _ _ next.0 next.1 c.loop-row.invariant.0 c.in_err-write_row.ensures.wrote
+    let next = next_drawn w rows i c.loop-row.drawn (row_at rows i) c.loop-row-test.true at (sym c.reaches.ensures ∙ c.if-reaches.true)
+    c.loop-row.invariant.1 c.if-drawn-lt-MOST_DRAWN.true in
+    wrote_item (row_text c.args.part c.args.set.now w) (drawn_rows w rows) c.loop-row.drawn (row_at rows i) _ _ _ _ _ next.0 next.1 c.loop-row.invariant.0
+    c.in_err-write_row.ensures.wrote
     c.from_residual.ensures.0
 
 pub loop-row-preserved : goal.loop-row-preserved
@@ -37,14 +40,19 @@ loop-row-preserved g c =
           let next = next_drawn w rows i n (row_at rows i) within at reached c.loop-row.invariant.1 v.if-drawn-lt-MOST_DRAWN.true in
           let count = count_next w rows i n (row_at rows i) within at reached c.loop-row.invariant.1 v.if-drawn-lt-MOST_DRAWN.true in
           rw (v.sink-is, v.drawn-is) (
-            item_written (row_text c.args.part c.args.set.now w) (drawn_rows w rows) n (row_at rows i) _ _ _ next.0 next.1 c.loop-row.invariant.0 v.in_ok-write_row.ensures.wrote.ok,
+            item_written (row_text c.args.part c.args.set.now w) (drawn_rows w rows) n (row_at rows i) _ _ _ next.0 next.1 c.loop-row.invariant.0
+                v.in_ok-write_row.ensures.wrote.ok,
             count,
             le_trans c.loop-row.invariant.2 v.write_row.ensures.cause.later,
           ))
       | else-drawn-lt-MOST_DRAWN v ↦ elim v.else-drawn-lt-MOST_DRAWN.branch [
         | else-drawn-lt-MOST_DRAWN-via-then-drawn-lt-MOST_DRAWN+else-reaches u ↦ (
             let apart = sym u.reaches.ensures ∙ u.if-reaches.false in
-            rw (v.sink-is, v.drawn-is) (c.loop-row.invariant.0, count_past w rows i n (row_at rows i) within at apart c.loop-row.invariant.1, c.loop-row.invariant.2))
+            rw (v.sink-is, v.drawn-is) (
+              c.loop-row.invariant.0,
+              count_past w rows i n (row_at rows i) within at apart c.loop-row.invariant.1,
+              c.loop-row.invariant.2,
+            ))
         | else-drawn-lt-MOST_DRAWN-via-else-drawn-lt-MOST_DRAWN u ↦ (
             rw (v.sink-is, v.drawn-is) (
               c.loop-row.invariant.0,

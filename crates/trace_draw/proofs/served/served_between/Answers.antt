@@ -11,7 +11,8 @@ reach_at-requires c = rw c.rows-rows.ensures.value (places_within c.args.trace.n
 pub returns-clause-given : goal.returns-clause-given
 returns-clause-given c =
     let given = rw c.rows-rows.ensures.value at c.given_at.ensures in
-    given ∙ ap (λ n. min n (2 ^ 128 - 1)) (task_given c.args.trace.now.rows c.args.task c.args.from c.args.to c.by_task-places.result.now c.by_task-places.ensures)
+    given ∙ ap (λ n. min n (2 ^ 128 - 1)) (task_given c.args.trace.now.rows c.args.task c.args.from c.args.to c.by_task-places.result.now
+    c.by_task-places.ensures)
 
 pub returns-clause-done : goal.returns-clause-done
 returns-clause-done c =

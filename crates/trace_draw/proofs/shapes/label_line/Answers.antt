@@ -4,12 +4,15 @@ use Rattle.trace_draw.specs.Shapes.{label_line}
 use Rattle.trace_draw.proofs.shapes.label_line.Goals as goal
 
 -- a label's line, put together piece by piece
-pieces : (a b c d e f g h i look text start x y m n o q r : List ℕ) → a ≡ [] → b ≡ a ++ start → c ≡ b ++ look → d ≡ c ++ (x ++ m) → e ≡ d ++ (y ++ n) → f ≡ e ++ o → g ≡ f ++ text → h ≡ g ++ q → i ≡ h ++ r
+pieces : (a b c d e f g h i look text start x y m n o q r : List ℕ) → a ≡ [] → b ≡ a ++ start → c ≡ b ++ look → d ≡ c ++ (x ++ m) → e ≡ d ++ (y ++ n) →
+    f ≡ e ++ o → g ≡ f ++ text → h ≡ g ++ q → i ≡ h ++ r
     → i ≡ start ++ (look ++ (x ++ (m ++ (y ++ (n ++ (o ++ (text ++ (q ++ r))))))))
 pieces a b c d e f g h i look text start x y m n o q r e0 e1 e2 e3 e4 e5 e6 e7 e8 = simp (e8, e7, e6, e5, e4, e3, e2, e1, e0, append_assoc) refl
 
 pub returns : goal.returns
 unfolding label_line
 returns c =
-    pieces _ _ _ _ _ _ _ _ _ c.args.look.now c.args.text.now (codes "<text class='") (codes "' x='") (codes "' y='") (decimal c.args.x) (decimal c.args.y) (codes "'>") (codes "</text>") (line_feed ∷ [])
-    c.new-line.ensures c.text.ensures c.text-2.ensures c.add_number.ensures.text c.add_number-2.ensures.text c.text-3.ensures c.text-4.ensures c.text-5.ensures c.end.ensures
+    pieces _ _ _ _ _ _ _ _ _ c.args.look.now c.args.text.now (codes "<text class='") (codes "' x='") (codes "' y='") (decimal c.args.x) (decimal c.args.y)
+    (codes "'>") (codes "</text>") (line_feed ∷ [])
+    c.new-line.ensures c.text.ensures c.text-2.ensures c.add_number.ensures.text c.add_number-2.ensures.text c.text-3.ensures c.text-4.ensures
+    c.text-5.ensures c.end.ensures

@@ -7,7 +7,8 @@ use Rattle.trace_verdict.proofs.findings.findings_at.Goals as goal
 pub findings_from-requires-clause-rows : goal.findings_from-requires-clause-rows
 findings_from-requires-clause-rows c =
     let all : c.args.places.now ≡ c.in-Some.first.now ∷ c.in-Some.later.now = grind arith in
-    in_back c.args.periods.now c.args.rows.now (c.in-Some.first.now ∷ []) c.in-Some.later.now (subst (AreInPeriods c.args.periods.now c.args.rows.now) all c.requires.rows)
+    in_back c.args.periods.now c.args.rows.now (c.in-Some.first.now ∷ []) c.in-Some.later.now (subst (AreInPeriods c.args.periods.now c.args.rows.now) all
+    c.requires.rows)
 
 pub returns-in-None : goal.returns-in-None
 returns-in-None c =

@@ -8,7 +8,8 @@ use Rattle.trace_verdict.proofs.findings.findings_from.Goals as goal
 
 pub loop-left-init : goal.loop-left-init
 loop-left-init c = (
-  tells_first c.args.periods.now c.args.first.now (map (row_at c.args.rows.now) c.args.places.now) c.new-tally.result c.new-tally.ensures.pace c.new-tally.ensures.before
+  tells_first c.args.periods.now c.args.first.now (map (row_at c.args.rows.now) c.args.places.now) c.new-tally.result c.new-tally.ensures.pace
+      c.new-tally.ensures.before
       c.new-tally.ensures.preemptions c.new-tally.ensures.migrations c.new-tally.ensures.response,
   c.requires.rows,
 )
@@ -27,14 +28,16 @@ steps-requires-clause-rows c =
 pub steps-requires-clause-few_preempted : goal.steps-requires-clause-few_preempted
 steps-requires-clause-few_preempted c =
     let now = c.next_part.result.0.now in
-    let few = tells_few c.args.periods.now c.args.rows.now (take (length now) c.fetch.new.part) c.args.first.now c.args.places.now c.loop-left.left.now now c.next_part.result.1.now c.loop-left.tally
+    let few = tells_few c.args.periods.now c.args.rows.now (take (length now) c.fetch.new.part) c.args.first.now c.args.places.now c.loop-left.left.now now
+    c.next_part.result.1.now c.loop-left.tally
     c.next_part.ensures.parts c.fetch.ensures.rows c.loop-left.invariant.0 in
     omega (arith, few.0, c.requires.few)
 
 pub steps-requires-clause-few_moved : goal.steps-requires-clause-few_moved
 steps-requires-clause-few_moved c =
     let now = c.next_part.result.0.now in
-    let few = tells_few c.args.periods.now c.args.rows.now (take (length now) c.fetch.new.part) c.args.first.now c.args.places.now c.loop-left.left.now now c.next_part.result.1.now c.loop-left.tally
+    let few = tells_few c.args.periods.now c.args.rows.now (take (length now) c.fetch.new.part) c.args.first.now c.args.places.now c.loop-left.left.now now
+    c.next_part.result.1.now c.loop-left.tally
     c.next_part.ensures.parts c.fetch.ensures.rows c.loop-left.invariant.0 in
     omega (arith, few.1, c.requires.few)
 
@@ -44,7 +47,8 @@ loop-left-preserved c =
     let rows = c.args.rows.now in
     let now = c.next_part.result.0.now in
     let later = c.next_part.result.1.now in (
-      tells_later p rows _ _ c.loop-left.left.now now later c.loop-left.tally c.steps.new.self c.next_part.ensures.parts c.fetch.ensures.rows c.loop-left.invariant.0 c.steps.ensures,
+      tells_later p rows _ _ c.loop-left.left.now now later c.loop-left.tally c.steps.new.self c.next_part.ensures.parts c.fetch.ensures.rows
+          c.loop-left.invariant.0 c.steps.ensures,
       in_back p rows now later (subst (AreInPeriods p rows) c.next_part.ensures.parts c.loop-left.invariant.1),
     )
 

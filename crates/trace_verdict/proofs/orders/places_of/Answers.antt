@@ -7,7 +7,8 @@ use Rattle.trace_verdict.proofs.orders.places_of.Goals as goal
 
 pub loop-entry-preserved : goal.loop-entry-preserved
 loop-entry-preserved c =
-    places_more c.args.entries.now c.loop-entry.entry-index (record { key = 0; start = 0; place = 0; end = 0 }) c.loop-entry.places.items c.push.new.self.items c.loop-entry-test.true
+    places_more c.args.entries.now c.loop-entry.entry-index (record { key = 0; start = 0; place = 0; end = 0 }) c.loop-entry.places.items
+    c.push.new.self.items c.loop-entry-test.true
     c.loop-entry.invariant c.in_ok-push.ensures.items
 
 pub returns : goal.returns

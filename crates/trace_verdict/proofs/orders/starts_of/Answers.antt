@@ -9,7 +9,8 @@ use Rattle.trace_verdict.proofs.orders.starts_of.Goals as goal
 
 pub loop-key-init : goal.loop-key-init
 loop-key-init c =
-    subst (λ v. Started 0 0 v c.args.entries.now) (sym (c.in_ok-push.ensures.items ∙ ap (λ v. v ++ 0 ∷ []) c.new-starts.ensures.items)) (started_none c.args.entries.now (Rising-from_sorted _ c.requires.sorted))
+    subst (λ v. Started 0 0 v c.args.entries.now) (sym (c.in_ok-push.ensures.items ∙ ap (λ v. v ++ 0 ∷ []) c.new-starts.ensures.items))
+    (started_none c.args.entries.now (Rising-from_sorted _ c.requires.sorted))
 
 pub overflow_add-at : goal.overflow_add-at
 overflow_add-at c =

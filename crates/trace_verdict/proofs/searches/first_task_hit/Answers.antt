@@ -8,4 +8,5 @@ pub first_clash-requires-clause-long : goal.first_clash-requires-clause-long
 first_clash-requires-clause-long c = order_long c.args.set.now task_key c.args.rows.now c.args.by_task.now c.requires.order c.requires.trace.each
 
 pub returns : goal.returns
-returns c = subst (IsFirstHit task_key c.args.rows.now) (sym c.unwrap_or.ensures) (hit_from task_key c.args.rows.now c.args.by_task.now c.len-count.result c.first_clash.result c.len-count.ensures c.requires.order c.first_clash.ensures)
+returns c = subst (IsFirstHit task_key c.args.rows.now) (sym c.unwrap_or.ensures) (hit_from task_key c.args.rows.now c.args.by_task.now c.len-count.result
+    c.first_clash.result c.len-count.ensures c.requires.order c.first_clash.ensures)

@@ -8,7 +8,8 @@ use Rattle.trace_verdict.proofs.standing.all_places.Goals as goal
 
 pub loop-i-preserved : goal.loop-i-preserved
 loop-i-preserved c =
-    c.in_ok-push.ensures.items ∙ (ap (λ ps. ps ++ c.loop-i.i ∷ []) c.loop-i.invariant ∙ place_more c.args.rows.now c.loop-i.i (record { processor = 0; start = 0; end = 0; leaf = leaves.Task (record { 0 = 0 }) }) (omega (arith, c.loop-i-test.true, c.len-i-end.ensures)))
+    c.in_ok-push.ensures.items ∙ (ap (λ ps. ps ++ c.loop-i.i ∷ []) c.loop-i.invariant ∙ place_more c.args.rows.now c.loop-i.i
+    (record { processor = 0; start = 0; end = 0; leaf = leaves.Task (record { 0 = 0 }) }) (omega (arith, c.loop-i-test.true, c.len-i-end.ensures)))
 
 pub returns : goal.returns
 returns c = c.loop-i.invariant ∙ ap (λ rows. places (entries_from processor_key 0 rows)) (take_all c.loop-i.i c.args.rows.now (omega arith))

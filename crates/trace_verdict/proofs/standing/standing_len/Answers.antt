@@ -14,4 +14,6 @@ returns-clause-stands c =
 
 pub returns-then-not-comes_after-clause-stops : goal.returns-then-not-comes_after-clause-stops
 returns-then-not-comes_after-clause-stops c = λ less.
-    stand_no_more c.args.rows.now c.loop-i.i c.loop-i.last c.get-row.result (record { processor = 0; start = 0; end = 0; leaf = leaves.Task (record { 0 = 0 }) }) less c.get-row.ensures (sym c.if-not-comes_after.ensures) c.loop-i.invariant
+    stand_no_more c.args.rows.now c.loop-i.i c.loop-i.last c.get-row.result
+    (record { processor = 0; start = 0; end = 0; leaf = leaves.Task (record { 0 = 0 }) }) less c.get-row.ensures (sym c.if-not-comes_after.ensures)
+    c.loop-i.invariant

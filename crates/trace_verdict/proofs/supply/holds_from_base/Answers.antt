@@ -9,13 +9,16 @@ abbrev no_entry : Entry
 no_entry = record { key = 0; start = 0; place = 0; end = 0 }
 
 pub loop-row-init : goal.loop-row-init
-loop-row-init c = remains_all c.args.periods.now c.args.rows.now c.new-walk.result (c.new-walk.ensures.stands c.requires.begun) c.new-walk.ensures.tick c.new-walk.ensures.done c.requires.apart
+loop-row-init c = remains_all c.args.periods.now c.args.rows.now c.new-walk.result (c.new-walk.ensures.stands c.requires.begun) c.new-walk.ensures.tick
+    c.new-walk.ensures.done c.requires.apart
 
 pub pass-requires-clause-apart : goal.pass-requires-clause-apart
-pass-requires-clause-apart c = (remains_at c.args.periods.now c.args.rows.now c.loop-row.row-index no_entry c.loop-row.walk (omega arith) c.loop-row.invariant).apart.0
+pass-requires-clause-apart c = (remains_at c.args.periods.now c.args.rows.now c.loop-row.row-index no_entry c.loop-row.walk (omega arith)
+    c.loop-row.invariant).apart.0
 
 pub pass-requires-clause-long : goal.pass-requires-clause-long
-pass-requires-clause-long c = (remains_at c.args.periods.now c.args.rows.now c.loop-row.row-index no_entry c.loop-row.walk (omega arith) c.loop-row.invariant).apart.1
+pass-requires-clause-long c = (remains_at c.args.periods.now c.args.rows.now c.loop-row.row-index no_entry c.loop-row.walk (omega arith)
+    c.loop-row.invariant).apart.1
 
 pub pass-requires-clause-ends : goal.pass-requires-clause-ends
 pass-requires-clause-ends c =
@@ -34,7 +37,8 @@ loop-row-preserved c =
     let rows = c.args.rows.now in
     let i = c.loop-row.row-index in
     let here = remains_at c.args.periods.now rows i no_entry c.loop-row.walk (omega arith) c.loop-row.invariant in
-    remains_next c.args.periods.now rows (drop (i + 1) rows) (get_or rows i no_entry) c.loop-row.walk c.pass.new.self c.pass.result here c.if-not-pass.false c.pass.ensures.due
+    remains_next c.args.periods.now rows (drop (i + 1) rows) (get_or rows i no_entry) c.loop-row.walk c.pass.new.self c.pass.result here c.if-not-pass.false
+    c.pass.ensures.due
     (c.pass.ensures.stands c.if-not-pass.false) (c.pass.ensures.tick c.if-not-pass.false) (c.pass.ensures.done c.if-not-pass.false)
 
 pub returns : goal.returns

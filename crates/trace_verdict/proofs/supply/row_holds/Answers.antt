@@ -31,13 +31,15 @@ returns-then-row c =
 
 pub returns-then-is_due : goal.returns-then-is_due
 returns-then-is_due c =
-    row_by_ends c.args.periods.now c.args.row.now c.args.done true c.is_due-then-is_due.result c.requires.counted c.if-row.false (sym c.if-is_due.true ∙ c.is_due.ensures) c.is_due-then-is_due.ensures
+    row_by_ends c.args.periods.now c.args.row.now c.args.done true c.is_due-then-is_due.result c.requires.counted c.if-row.false (sym c.if-is_due.true
+    ∙ c.is_due.ensures) c.is_due-then-is_due.ensures
 
 pub returns-else-is_due : goal.returns-else-is_due
 returns-else-is_due c =
     let p = c.args.periods.now in
     let row = c.args.row.now in
-    c.if-is_due.false ∙ row_by_ends p row c.args.done false (eqb (c.args.done + (bound_at p row.after - row.from)) (row.after * p.due)) c.requires.counted c.if-row.false
+    c.if-is_due.false ∙ row_by_ends p row c.args.done false (eqb (c.args.done + (bound_at p row.after - row.from)) (row.after * p.due)) c.requires.counted
+    c.if-row.false
     (sym c.if-is_due.false ∙ c.is_due.ensures) refl
 
 pub is_due-requires-clause-small : goal.is_due-requires-clause-small

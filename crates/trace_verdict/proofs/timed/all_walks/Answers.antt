@@ -16,5 +16,6 @@ loop-task-preserved c =
     let size : length c.push.new.self.items ≡ length (old ++ c.new.result ∷ []) = ap length items in (
       omega (arith, size, all, had),
       λ rows. subst (AreGoing s l rows 0) (sym items)
-          (going_more s l rows j old c.new.result had (c.loop-task.invariant.1 rows) (c.new.ensures.gone rows j) (c.new.ensures.periods ∙ c.task_periods.ensures.periods)),
+          (going_more s l rows j old c.new.result had (c.loop-task.invariant.1 rows) (c.new.ensures.gone rows j) (c.new.ensures.periods
+          ∙ c.task_periods.ensures.periods)),
     )

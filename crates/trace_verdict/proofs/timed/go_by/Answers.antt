@@ -11,4 +11,5 @@ returns c = λ t s l g.
     let new : TaskWalk = c.step.new.self in
     let within : j < length walks = omega arith in
     let periods = c.step.ensures.periods ∙ ap (λ (w : TaskWalk). w.periods) (get_or_default walks j _ new within) in
-    going_on s l c.args.rows.now j walks (get_or walks j new) new within (get_or_default walks j new (get_or walks j new) within) g (c.step.ensures.gone t) periods
+    going_on s l c.args.rows.now j walks (get_or walks j new) new within (get_or_default walks j new (get_or walks j new) within) g (c.step.ensures.gone t)
+    periods

@@ -12,4 +12,5 @@ returns-clause-gone c = λ t s l g.
     let walks = c.args.walks.now in
     let j = c.in-Some.task in
     let within : j < length walks = omega arith in
-    short_going_on s l c.args._rows.now j walks (get_or walks j _) c.step.new.self within (sym (get_or-map wide_of walks j _ _ within)) g (c.step.ensures.gone t) c.step.ensures.periods
+    short_going_on s l c.args._rows.now j walks (get_or walks j _) c.step.new.self within (sym (get_or-map wide_of walks j _ _ within)) g
+    (c.step.ensures.gone t) c.step.ensures.periods

@@ -37,11 +37,13 @@ pub found_of-requires-clause-total : goal.found_of-requires-clause-total
 found_of-requires-clause-total c = c.requires.total
 
 pub found_of-requires-clause-count : goal.found_of-requires-clause-count
-found_of-requires-clause-count c = ap length (c.deref-2.ensures.value ∙ c.in_ok-wide.ensures) ∙ length-map c.deref.result.now wide_of ∙ ap length c.deref.ensures.value ∙ c.rows.invariant.0
+found_of-requires-clause-count c = ap length (c.deref-2.ensures.value ∙ c.in_ok-wide.ensures) ∙ length-map c.deref.result.now wide_of
+    ∙ ap length c.deref.ensures.value ∙ c.rows.invariant.0
 
 pub found_of-requires-clause-going : goal.found_of-requires-clause-going
 found_of-requires-clause-going c =
-    subst (AreGoing c.args.set.now c.args.scale c.args.rows.now 0) (sym (c.deref-2.ensures.value ∙ c.in_ok-wide.ensures ∙ ap (map wide_of) c.deref.ensures.value)) c.rows.invariant.1
+    subst (AreGoing c.args.set.now c.args.scale c.args.rows.now 0) (sym (c.deref-2.ensures.value ∙ c.in_ok-wide.ensures ∙ ap (map wide_of)
+    c.deref.ensures.value)) c.rows.invariant.1
 
 pub returns : goal.returns
 returns c = c.found_of.ensures

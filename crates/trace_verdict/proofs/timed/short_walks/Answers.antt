@@ -12,7 +12,8 @@ pub returns-in_err-push : goal.returns-in_err-push
 returns-in_err-push c = IfOk-from_err _ _ c.from_residual.ensures.0
 
 pub loop-walk-preserved : goal.loop-walk-preserved
-loop-walk-preserved c = made_more wide_of c.args.walks.now c.loop-walk.walk-index _ _ _ _ c.loop-walk-test.true c.loop-walk.invariant c.in_ok-push.ensures.items c.in-Some.ensures
+loop-walk-preserved c = made_more wide_of c.args.walks.now c.loop-walk.walk-index _ _ _ _ c.loop-walk-test.true c.loop-walk.invariant
+    c.in_ok-push.ensures.items c.in-Some.ensures
 
 pub returns : goal.returns
 returns c = c.loop-walk.invariant ∙ take_all c.loop-walk.walk-index c.args.walks.now c.loop-walk-test.false

@@ -54,7 +54,8 @@ rows-preserved c =
     let long = c.go_by.auto.walks ∙ ap length c.deref_mut.ensures.value in
     let back = take_at new (drop (length new) old.items) old.len (long ∙ sym old.ok.0) in (
       ap length back ∙ long ∙ c.rows.invariant.0,
-      subst going (sym back) (c.go_by.ensures c.if-not-go_by.false c.args.set.now c.args.scale (subst going (sym c.deref_mut.ensures.value) c.rows.invariant.1)),
+      subst going (sym back) (c.go_by.ensures c.if-not-go_by.false c.args.set.now c.args.scale (subst going (sym c.deref_mut.ensures.value)
+          c.rows.invariant.1)),
     )
 
 pub found_of-requires-clause-trace : goal.found_of-requires-clause-trace

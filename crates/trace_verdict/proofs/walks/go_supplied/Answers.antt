@@ -2,7 +2,8 @@ use Rattle.trace_verdict.proofs.SuppliedLemmas.{none_told, went_supplied}
 use Rattle.trace_verdict.proofs.walks.go_supplied.Goals as goal
 
 pub returns-then-periods-clause-told : goal.returns-then-periods-clause-told
-returns-then-periods-clause-told c = none_told c.args.periods.now c.args.rows.now c.args.places.now c.none_at.result c.none_at.ensures.none c.none_at.ensures.told
+returns-then-periods-clause-told c = none_told c.args.periods.now c.args.rows.now c.args.places.now c.none_at.result c.none_at.ensures.none
+    c.none_at.ensures.told
 
 pub returns-clause-supplied : goal.returns-clause-supplied
 returns-clause-supplied c =

@@ -22,7 +22,8 @@ loop-left-init c =
     let own : AllByRecursion (IsPlaceOf rows j) (first ∷ []) = (record { within = within; key = key }, tt) in
     let past : GoesPast p (entries_at rows j (first ∷ [])) c.new-walk.result c.step.new.self
     = subst (λ (r : Row). GoesPast p (entry_for j r first ∷ []) c.new-walk.result c.step.new.self) row (c.step.ensures.past c.if-not-step.false first) in
-    let all = leaves_all p rows j (first ∷ places) c.new-walk.result (c.new-walk.ensures.stands c.requires.begun) c.new-walk.ensures.tick c.new-walk.ensures.done in (
+    let all = leaves_all p rows j (first ∷ places) c.new-walk.result (c.new-walk.ensures.stands c.requires.begun) c.new-walk.ensures.tick
+    c.new-walk.ensures.done in (
       leaves_less p rows j (first ∷ places) (first ∷ places) (first ∷ []) places c.new-walk.result c.step.new.self refl all own past,
       tells_first p (row_at rows first) (map (row_at rows) places) c.new-tally.result c.new-tally.ensures.pace (c.new-tally.ensures.before ∙ row)
           c.new-tally.ensures.preemptions c.new-tally.ensures.migrations (c.new-tally.ensures.response ∙ ap (row_response p) row),
@@ -36,7 +37,8 @@ pub steps-requires-in-loop-left-clause-few_preempted : goal.steps-requires-in-lo
 steps-requires-in-loop-left-clause-few_preempted c =
     let rows = c.args.rows.now in
     let now = c.next_part.result.0.now in
-    let few = tells_few c.args.periods.now rows (take (length now) c.steps.new.part) (row_at rows c.args.first) c.args.places.now c.loop-left.left.now now c.next_part.result.1.now c.loop-left.tally
+    let few = tells_few c.args.periods.now rows (take (length now) c.steps.new.part) (row_at rows c.args.first) c.args.places.now c.loop-left.left.now now
+    c.next_part.result.1.now c.loop-left.tally
     c.next_part.ensures.parts (c.steps.ensures.fetched c.if-not-steps.false) c.loop-left.invariant.1 in
     omega (arith, few.0)
 
@@ -44,7 +46,8 @@ pub steps-requires-in-loop-left-clause-few_moved : goal.steps-requires-in-loop-l
 steps-requires-in-loop-left-clause-few_moved c =
     let rows = c.args.rows.now in
     let now = c.next_part.result.0.now in
-    let few = tells_few c.args.periods.now rows (take (length now) c.steps.new.part) (row_at rows c.args.first) c.args.places.now c.loop-left.left.now now c.next_part.result.1.now c.loop-left.tally
+    let few = tells_few c.args.periods.now rows (take (length now) c.steps.new.part) (row_at rows c.args.first) c.args.places.now c.loop-left.left.now now
+    c.next_part.result.1.now c.loop-left.tally
     c.next_part.ensures.parts (c.steps.ensures.fetched c.if-not-steps.false) c.loop-left.invariant.1 in
     omega (arith, few.1)
 
@@ -56,9 +59,11 @@ loop-left-preserved c =
     let all = c.args.first ∷ c.args.places.now in
     let now = c.next_part.result.0.now in
     let later = c.next_part.result.1.now in (
-      leaves_less p rows j all c.loop-left.left.now now later c.loop-left.walk c.steps.new.self c.next_part.ensures.parts c.loop-left.invariant.0 (c.steps.ensures.own c.if-not-steps.false)
+      leaves_less p rows j all c.loop-left.left.now now later c.loop-left.walk c.steps.new.self c.next_part.ensures.parts c.loop-left.invariant.0
+          (c.steps.ensures.own c.if-not-steps.false)
           (c.steps.ensures.past c.if-not-steps.false),
-      tells_later p rows (take (length now) c.steps.new.part) (map (row_at rows) all) c.loop-left.left.now now later c.loop-left.tally c.steps-in-loop-left.new.self c.next_part.ensures.parts
+      tells_later p rows (take (length now) c.steps.new.part) (map (row_at rows) all) c.loop-left.left.now now later c.loop-left.tally
+          c.steps-in-loop-left.new.self c.next_part.ensures.parts
           (c.steps.ensures.fetched c.if-not-steps.false) c.loop-left.invariant.1 c.steps-in-loop-left.ensures,
     )
 
@@ -70,8 +75,10 @@ returns-then-ends c =
     let all = c.args.first ∷ c.args.places.now in
     let none : c.loop-left.left.now ≡ [] = empty_is c.loop-left.left.now (sym c.is_empty.ensures ∙ c.loop-left-test.false) in
     let leaves : Leaves p rows j all [] c.loop-left.walk = subst (λ left. Leaves p rows j all left c.loop-left.walk) none c.loop-left.invariant.0 in
-    let tells : Tells p (map (row_at rows) all) [] c.loop-left.tally = subst (λ left. Tells p (map (row_at rows) all) (map (row_at rows) left) c.loop-left.tally) none c.loop-left.invariant.1 in
-    went_all p rows j all c.loop-left.walk c.loop-left.tally.found leaves (holds_end p c.loop-left.walk c.ends.result leaves.stands c.ends.ensures c.if-ends.true) (tells_all p (map (row_at rows) all) c.loop-left.tally tells)
+    let tells : Tells p (map (row_at rows) all) [] c.loop-left.tally = subst (λ left. Tells p (map (row_at rows) all) (map (row_at rows) left)
+    c.loop-left.tally) none c.loop-left.invariant.1 in
+    went_all p rows j all c.loop-left.walk c.loop-left.tally.found leaves (holds_end p c.loop-left.walk c.ends.result leaves.stands c.ends.ensures
+    c.if-ends.true) (tells_all p (map (row_at rows) all) c.loop-left.tally tells)
 
 pub new-walk-requires : goal.new-walk-requires
 new-walk-requires c = record { lawful = c.requires.lawful }

@@ -10,7 +10,8 @@ returns-in_err-write_head-clause-wrote g c = wrote_cut _ _ _ _ _ _ c.in_err-writ
 
 pub returns-in_err-write_tasks-clause-wrote : goal.returns-in_err-write_tasks-clause-wrote
 returns-in_err-write_tasks-clause-wrote g c =
-    wrote_then _ _ _ _ _ _ _ c.in_ok-write_head.ensures.wrote (wrote_cut _ _ _ _ _ _ c.in_err-write_tasks.ensures.wrote c.from_residual-in_err-write_tasks.ensures.0)
+    wrote_then _ _ _ _ _ _ _ c.in_ok-write_head.ensures.wrote (wrote_cut _ _ _ _ _ _ c.in_err-write_tasks.ensures.wrote
+    c.from_residual-in_err-write_tasks.ensures.0)
 
 pub returns-in_err-count-clause-wrote : goal.returns-in_err-count-clause-wrote
 returns-in_err-count-clause-wrote g c =
@@ -60,19 +61,22 @@ pub returns-in_err-count-clause-count : goal.returns-in_err-count-clause-count
 returns-in_err-count-clause-count g c = no_answer _ _ c.from_residual-in_err-count.ensures.0
 
 pub returns-in_err-count-clause-cause : goal.returns-in_err-count-clause-cause
-returns-in_err-count-clause-cause g c = cause_cut _ _ _ _ _ (le_trans c.write_head.ensures.cause.later c.write_tasks.ensures.cause.later) c.in_err-count.ensures.cause
+returns-in_err-count-clause-cause g c = cause_cut _ _ _ _ _ (le_trans c.write_head.ensures.cause.later c.write_tasks.ensures.cause.later)
+    c.in_err-count.ensures.cause
 
 pub returns-in_err-write_totals-clause-count : goal.returns-in_err-write_totals-clause-count
 returns-in_err-write_totals-clause-count g c = no_answer _ _ c.from_residual-in_err-write_totals.ensures.0
 
 pub returns-in_err-write_totals-clause-cause : goal.returns-in_err-write_totals-clause-cause
-returns-in_err-write_totals-clause-cause g c = cause_cut _ _ _ _ _ (le_trans (le_trans c.write_head.ensures.cause.later c.write_tasks.ensures.cause.later) c.write_rows.ensures.cause.later) c.in_err-write_totals.ensures.cause
+returns-in_err-write_totals-clause-cause g c = cause_cut _ _ _ _ _ (le_trans (le_trans c.write_head.ensures.cause.later c.write_tasks.ensures.cause.later)
+    c.write_rows.ensures.cause.later) c.in_err-write_totals.ensures.cause
 
 pub returns-clause-count : goal.returns-clause-count
 returns-clause-count g c = c.in_ok-count.ensures.count
 
 pub returns-clause-cause : goal.returns-clause-cause
 returns-clause-cause g c = record {
-  later = le_trans (le_trans c.write_head.ensures.cause.later c.write_tasks.ensures.cause.later) (le_trans c.write_rows.ensures.cause.later c.write_totals.ensures.cause.later);
+  later = le_trans (le_trans c.write_head.ensures.cause.later c.write_tasks.ensures.cause.later) (le_trans c.write_rows.ensures.cause.later
+      c.write_totals.ensures.cause.later);
   failed = tt;
 }

@@ -12,7 +12,8 @@ pub returns-in_err-write_all-clause-wrote : goal.returns-in_err-write_all-clause
 returns-in_err-write_all-clause-wrote g c =
     let wrote = rw (c.as_slice.ensures.bytes, c.line_of_task.ensures) at c.in_err-write_all.ensures.wrote in
     rw (← c.tasks-task-items.ensures.value)
-    (wrote_item (task_line c.args.version) c.tasks-task-items.result.now c.loop-task.task-index c.task-item.result _ _ _ _ _ c.loop-task-test.true c.task-item.is c.loop-task.invariant.0 wrote c.from_residual.ensures.0)
+    (wrote_item (task_line c.args.version) c.tasks-task-items.result.now c.loop-task.task-index c.task-item.result _ _ _ _ _ c.loop-task-test.true
+    c.task-item.is c.loop-task.invariant.0 wrote c.from_residual.ensures.0)
 
 pub returns-in_err-write_all-clause-cause : goal.returns-in_err-write_all-clause-cause
 returns-in_err-write_all-clause-cause g c = cause_cut _ _ _ _ _ c.loop-task.invariant.1 c.in_err-write_all.ensures.cause
@@ -20,7 +21,8 @@ returns-in_err-write_all-clause-cause g c = cause_cut _ _ _ _ _ c.loop-task.inva
 pub loop-task-preserved : goal.loop-task-preserved
 loop-task-preserved g c =
     let wrote = rw (c.as_slice.ensures.bytes, c.line_of_task.ensures) at c.in_ok-write_all.ensures.wrote in (
-      item_written (task_line c.args.version) c.tasks-task-items.result.now c.loop-task.task-index c.task-item.result _ _ _ c.loop-task-test.true c.task-item.is c.loop-task.invariant.0 wrote.ok,
+      item_written (task_line c.args.version) c.tasks-task-items.result.now c.loop-task.task-index c.task-item.result _ _ _ c.loop-task-test.true
+          c.task-item.is c.loop-task.invariant.0 wrote.ok,
       le_trans c.loop-task.invariant.1 c.write_all.ensures.cause.later,
     )
 

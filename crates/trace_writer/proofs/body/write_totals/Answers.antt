@@ -26,7 +26,8 @@ returns-in_err-write_all-clause-wrote g c =
     let is = rw c.tasks-task-items.ensures.value at c.task-item.is in
     let wrote = rw (c.as_slice-in-loop-i.ensures.bytes, c.named_line-line.ensures, c.as_slice.ensures.bytes) at c.in_err-write_all.ensures.wrote in
     rw (total_lines_are tasks totals)
-    (wrote_item (total_line totals) (enumerate_from 0 tasks) i (i, c.task-item.result) _ _ _ _ _ among (numbered tasks i c.task-item.result within is) c.loop-i.invariant.0 wrote c.from_residual.ensures.0)
+    (wrote_item (total_line totals) (enumerate_from 0 tasks) i (i, c.task-item.result) _ _ _ _ _ among (numbered tasks i c.task-item.result within is)
+    c.loop-i.invariant.0 wrote c.from_residual.ensures.0)
 
 pub loop-i-preserved : goal.loop-i-preserved
 loop-i-preserved g c =
@@ -37,8 +38,11 @@ loop-i-preserved g c =
     let within : i < length tasks = omega (arith, items, c.loop-i-test.true) in
     let among : i < length (enumerate_from 0 tasks) = omega (arith, within, length-enumerate_from 0 tasks) in
     let is = rw c.tasks-task-items.ensures.value at c.task-item.is in
-    let wrote = rw (c.as_slice-in-loop-i.ensures.bytes, c.named_line-line.ensures, c.as_slice.ensures.bytes) at c.in_ok-write_all.ensures.wrote in
-    (item_written (total_line totals) (enumerate_from 0 tasks) i (i, c.task-item.result) _ _ _ among (numbered tasks i c.task-item.result within is) c.loop-i.invariant.0 wrote.ok, le_trans c.loop-i.invariant.1 c.write_all.ensures.cause.later)
+    let wrote = rw (c.as_slice-in-loop-i.ensures.bytes, c.named_line-line.ensures, c.as_slice.ensures.bytes) at c.in_ok-write_all.ensures.wrote in (
+      item_written (total_line totals) (enumerate_from 0 tasks) i (i, c.task-item.result) _ _ _ among (numbered tasks i c.task-item.result within is)
+          c.loop-i.invariant.0 wrote.ok,
+      le_trans c.loop-i.invariant.1 c.write_all.ensures.cause.later,
+    )
 
 pub returns-clause-wrote : goal.returns-clause-wrote
 returns-clause-wrote g c =

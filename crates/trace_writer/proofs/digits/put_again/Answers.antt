@@ -18,7 +18,11 @@ returns-clause-text c = λ _.
     let long : 25 ≤ len = c.raise_of.ensures.long some.1 in
     let first : take (len - 24) c.put_block.new.bytes ≡ take (len - 24) (low_digits 8 raised) =
     ap (λ k. take k c.put_block.new.bytes) (omega arith) ∙ c.put_block.ensures.text ∙ ap (λ xs. take (len - 24) xs) c.eight_digits.ensures in
-    let short : (c.args.number + (2 ^ 128 - high * 10 ^ 16)) % 2 ^ 128 < 10 ^ 16 = rw (c.from.ensures, c.from-2.ensures, c.from-else-raised-ge-EIGHT.ensures) at c.if-low-from.false in
+    let short : (c.args.number + (2 ^ 128 - high * 10 ^ 16)) % 2 ^ 128 < 10 ^ 16 = rw (
+      c.from.ensures,
+      c.from-2.ensures,
+      c.from-else-raised-ge-EIGHT.ensures,
+    ) at c.if-low-from.false in
     let middle : take (len - 24 + 8) c.put_eight.new.bytes ≡ take (len - 24) c.put_block.new.bytes ++ low_digits 8 (high % 10 ^ 8) =
     c.put_eight.ensures.text ∙ ap (λ n. take (len - 24) c.put_block.new.bytes ++ low_digits 8 n) (omega arith) in
     let last = rw (c.from.ensures, c.from-2.ensures) at c.put_sixteen.ensures.text in

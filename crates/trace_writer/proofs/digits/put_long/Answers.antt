@@ -17,4 +17,5 @@ returns-clause-end c =
     omega (arith, long, end)
 
 pub returns-clause-text : goal.returns-clause-text
-returns-clause-text c = then_written _ _ _ _ _ _ (sixteen_parts c.args.number c.requires.long (omega arith)) c.put_few-end.ensures.text c.put_sixteen.ensures.text
+returns-clause-text c = then_written _ _ _ _ _ _ (sixteen_parts c.args.number c.requires.long (omega arith)) c.put_few-end.ensures.text
+    c.put_sixteen.ensures.text

@@ -38,5 +38,6 @@ returns-clause-end c =
 pub returns-clause-text : goal.returns-clause-text
 returns-clause-text c =
     let parts : decimal c.args.number ≡ decimal c.cut-high.result.0 ++ low_digits 16 c.cut-high.result.1 =
-    sixteen_parts c.args.number (omega (arith, c.if-number-from.false)) (omega arith) ∙ ap (λ n. decimal n ++ low_digits 16 (c.args.number % 10 ^ 16)) (sym c.cut-high.ensures.high) ∙ ap (λ n. decimal c.cut-high.result.0 ++ low_digits 16 n) (sym c.cut-high.ensures.low) in
+    sixteen_parts c.args.number (omega (arith, c.if-number-from.false)) (omega arith) ∙ ap (λ n. decimal n ++ low_digits 16 (c.args.number % 10 ^ 16))
+    (sym c.cut-high.ensures.high) ∙ ap (λ n. decimal c.cut-high.result.0 ++ low_digits 16 n) (sym c.cut-high.ensures.low) in
     then_written _ _ _ _ _ _ parts c.put_high-end.ensures.text c.put_sixteen.ensures.text

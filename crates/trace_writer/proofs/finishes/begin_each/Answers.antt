@@ -16,7 +16,8 @@ bounds-ends-k c = subst (λ n. c.loop-k.k < n) (sym c.loop-k.auto.ends) c.loop-k
 
 pub loop-k-preserved : goal.loop-k-preserved
 loop-k-preserved c =
-    starts_next c.args.scale c.args.task.now c.loop-k.k c.period_start.result c.loop-k.ends (subst (λ n. c.loop-k.k < n) (sym c.loop-k.auto.ends) c.loop-k-test.true) c.period_start.ensures c.loop-k.invariant
+    starts_next c.args.scale c.args.task.now c.loop-k.k c.period_start.result c.loop-k.ends (subst (λ n. c.loop-k.k < n) (sym c.loop-k.auto.ends)
+    c.loop-k-test.true) c.period_start.ensures c.loop-k.invariant
 
 pub returns : goal.returns
 returns c = λ j i inside. c.loop-k.invariant i (let past = c.loop-k-test.false in let all = c.loop-k.auto.ends in omega (arith, inside, past, all))

@@ -18,4 +18,5 @@ pub period_at-requires : goal.period_at-requires
 period_at-requires c = record { some = c.requires.some }
 
 pub returns-clause-past : goal.returns-clause-past
-returns-clause-past c = past_few c.args.scale c.args.task.now c.min.result c.period_at.result c.args.tick (let least = c.min.ensures in omega (arith, least)) c.period_at.ensures
+returns-clause-past c = past_few c.args.scale c.args.task.now c.min.result c.period_at.result c.args.tick (let least = c.min.ensures in
+    omega (arith, least)) c.period_at.ensures

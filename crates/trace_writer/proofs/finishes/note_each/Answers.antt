@@ -28,4 +28,8 @@ returns-then-begin-row c = λ rows done.
 
 pub returns : goal.returns
 returns c = λ rows done.
-    noted_all c.args.scale c.args.task.now c.args._number rows c.args.row.now c.loop-k.k c.loop-k.ends (omega (arith, c.loop-k-test.false, c.loop-k.auto.ends)) (c.loop-k.invariant.1 rows done)
+    noted_all c.args.scale c.args.task.now c.args._number rows c.args.row.now c.loop-k.k c.loop-k.ends (omega (
+      arith,
+      c.loop-k-test.false,
+      c.loop-k.auto.ends,
+    )) (c.loop-k.invariant.1 rows done)

@@ -7,7 +7,8 @@ use Rattle.trace_writer.proofs.finishes.note_row.Goals as goal
 pub note-requires-clause-fits : goal.note-requires-clause-fits
 note-requires-clause-fits c =
     let within : c.in-Task.id.0 < length c.args.set.now.tasks = subst (λ (l : Leaf). IsAmong (length c.args.set.now.tasks) l) c.in-Task.is c.requires.among in
-    item_fits c.args.set.now c.args.finishes.now c.in-Task.id.0 c.index-tasks-j.result _ c.tasks.ensures.lawful c.requires.room within (rw c.tasks.ensures.value at c.index-tasks-j.is)
+    item_fits c.args.set.now c.args.finishes.now c.in-Task.id.0 c.index-tasks-j.result _ c.tasks.ensures.lawful c.requires.room within
+    (rw c.tasks.ensures.value at c.index-tasks-j.is)
 
 pub returns-in-Task-clause-room : goal.returns-in-Task-clause-room
 returns-in-Task-clause-room c =

@@ -27,5 +27,6 @@ loop-k-preserved c =
     let (so_far, begun) = c.loop-k.invariant in
     let within : k < length ends = omega (arith, c.loop-k-test.true) in
     let among : k < length (enumerate_from 0 ends) = omega (arith, within, length-enumerate_from 0 ends) in
-    let more = page_more (line_of_met c.args.name.now) (enumerate_from 0 ends) k (k, get_or ends k 0) _ c.loop-k.page among (numbered_end ends k within) so_far in
+    let more = page_more (line_of_met c.args.name.now) (enumerate_from 0 ends) k (k, get_or ends k 0) _ c.loop-k.page among (numbered_end ends k within)
+    so_far in
     (rw c.add_met.ensures more, omega (arith, begun))

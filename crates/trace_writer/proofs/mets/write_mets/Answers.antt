@@ -26,7 +26,8 @@ returns-in_err-write_mets_of_task-clause-wrote g c = λ scale rows done.
     let told = mets_told scale s rows c.args.finishes.now j c.task-item.result c.requires.room within is done in
     let wrote = rw (c.as_slice.ensures.bytes, c.of_task.ensures, told) at c.in_err-write_mets_of_task.ensures.wrote in
     rw (texts_of (mets_of_task scale s rows) (enumerate_from 0 s.tasks))
-    (wrote_item (λ p. text_of (mets_of_task scale s rows p)) (enumerate_from 0 s.tasks) j (j, c.task-item.result) _ _ _ _ _ among (numbered s.tasks j c.task-item.result within is) (c.loop-j.invariant.0 scale rows done) wrote c.from_residual.ensures.0)
+    (wrote_item (λ p. text_of (mets_of_task scale s rows p)) (enumerate_from 0 s.tasks) j (j, c.task-item.result) _ _ _ _ _ among
+    (numbered s.tasks j c.task-item.result within is) (c.loop-j.invariant.0 scale rows done) wrote c.from_residual.ensures.0)
 
 pub loop-j-preserved : goal.loop-j-preserved
 loop-j-preserved g c =
@@ -39,7 +40,8 @@ loop-j-preserved g c =
       λ scale rows done. (
           let told = mets_told scale s rows c.args.finishes.now j c.task-item.result c.requires.room within is done in
           let wrote = rw (c.as_slice.ensures.bytes, c.of_task.ensures, told) at c.in_ok-write_mets_of_task.ensures.wrote in
-          item_written (λ p. text_of (mets_of_task scale s rows p)) (enumerate_from 0 s.tasks) j (j, c.task-item.result) _ _ _ among (numbered s.tasks j c.task-item.result within is) (c.loop-j.invariant.0 scale rows done) wrote.ok),
+          item_written (λ p. text_of (mets_of_task scale s rows p)) (enumerate_from 0 s.tasks) j (j, c.task-item.result) _ _ _ among
+          (numbered s.tasks j c.task-item.result within is) (c.loop-j.invariant.0 scale rows done) wrote.ok),
       le_trans c.loop-j.invariant.1 c.write_mets_of_task.ensures.cause.later,
     )
 

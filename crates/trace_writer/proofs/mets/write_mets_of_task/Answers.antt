@@ -13,12 +13,14 @@ loop-next-init g c = (took_none _, le_refl _, omega arith)
 pub returns-in_err-write_all-clause-wrote : goal.returns-in_err-write_all-clause-wrote
 returns-in_err-write_all-clause-wrote g c =
     let wrote = rw c.as_slice.ensures at c.in_err-write_all.ensures.wrote in
-    page_failed (line_of_met c.args.name.now) (enumerate_from 0 c.args.ends.now) c.loop-next.next c.fill-next.result c.fill-next.new.page _ _ _ _ _ c.fill-next.ensures.text c.loop-next.invariant.0 wrote c.from_residual.ensures.0
+    page_failed (line_of_met c.args.name.now) (enumerate_from 0 c.args.ends.now) c.loop-next.next c.fill-next.result c.fill-next.new.page _ _ _ _ _
+    c.fill-next.ensures.text c.loop-next.invariant.0 wrote c.from_residual.ensures.0
 
 pub loop-next-preserved : goal.loop-next-preserved
 loop-next-preserved g c =
     let wrote = rw c.as_slice.ensures at c.in_ok-write_all.ensures.wrote in (
-      page_written (line_of_met c.args.name.now) (enumerate_from 0 c.args.ends.now) c.loop-next.next c.fill-next.result c.fill-next.new.page _ _ _ c.fill-next.ensures.text c.loop-next.invariant.0 wrote.ok,
+      page_written (line_of_met c.args.name.now) (enumerate_from 0 c.args.ends.now) c.loop-next.next c.fill-next.result c.fill-next.new.page _ _ _
+          c.fill-next.ensures.text c.loop-next.invariant.0 wrote.ok,
       le_trans c.loop-next.invariant.1 c.write_all.ensures.cause.later,
       c.fill-next.ensures.within,
     )

@@ -20,4 +20,5 @@ pub returns-clause-room : goal.returns-clause-room
 returns-clause-room g c = c.loop-row.invariant.room
 
 pub returns-clause-done : goal.returns-clause-done
-returns-clause-done g c = has_noted_all c.args.scale c.args.set.now _ _ _ _ (none_left c.next_row.result c.in_default.not-Some c.next_row.ensures.none) c.loop-row.invariant
+returns-clause-done g c = has_noted_all c.args.scale c.args.set.now _ _ _ _ (none_left c.next_row.result c.in_default.not-Some c.next_row.ensures.none)
+    c.loop-row.invariant

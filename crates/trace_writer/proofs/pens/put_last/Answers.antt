@@ -21,4 +21,5 @@ returns-clause-front c =
 
 pub returns-clause-text : goal.returns-clause-text
 returns-clause-text c =
-    front_and_last c.args.front.number c.args.low c.args.front.len c.args.text.now c.put_eight.new.bytes (omega (arith, c.if-front-eq0.false)) (omega arith) c.requires.low c.requires.front.digits c.put_eight.ensures.text
+    front_and_last c.args.front.number c.args.low c.args.front.len c.args.text.now c.put_eight.new.bytes (omega (arith, c.if-front-eq0.false)) (omega arith)
+    c.requires.low c.requires.front.digits c.put_eight.ensures.text

@@ -17,6 +17,7 @@ returns-then-number-front-2-clause-front c =
     let within : c.args.front.len ≤ length c.args.text.now = omega (arith, few, room) in
     record {
       few = few;
-      digits = front_again c.args.front.number c.args.number c.args.front.len c.args.text.now c.put_eight.new.bytes c.if-front-ge-EIGHT.true (omega arith) (omega arith) within
+      digits = front_again c.args.front.number c.args.number c.args.front.len c.args.text.now c.put_eight.new.bytes c.if-front-ge-EIGHT.true (omega arith)
+          (omega arith) within
           c.requires.front.digits c.if-number-front-2.true c.put_eight.ensures.text;
     }

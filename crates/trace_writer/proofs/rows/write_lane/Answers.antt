@@ -39,7 +39,8 @@ pub returns-then-lines-eq0-clause-wrote : goal.returns-then-lines-eq0-clause-wro
 returns-then-lines-eq0-clause-wrote g c = (written_all _ _ _ _ _ _ _ (c.fill-lines.ensures.end c.if-lines-eq0.true) c.pages.invariant.0).0
 
 pub returns-then-lines-eq0-clause-count : goal.returns-then-lines-eq0-clause-count
-returns-then-lines-eq0-clause-count g c = (written_all {T = ℕ} {E = Unit {0}} _ _ _ _ _ _ 0 (c.fill-lines.ensures.end c.if-lines-eq0.true) c.pages.invariant.0).1
+returns-then-lines-eq0-clause-count g c = (written_all {T = ℕ} {E = Unit {0}} _ _ _ _ _ _ 0 (c.fill-lines.ensures.end c.if-lines-eq0.true)
+    c.pages.invariant.0).1
 
 pub returns-then-lines-eq0-clause-cause : goal.returns-then-lines-eq0-clause-cause
 returns-then-lines-eq0-clause-cause g c = record { later = c.pages.invariant.1; failed = tt }

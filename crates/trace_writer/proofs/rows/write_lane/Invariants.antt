@@ -6,7 +6,8 @@ use Rattle.trace_writer.proofs.rows.write_lane.Given as goal
 
 abbrev pub invariant-pages : goal.invariant-pages
 invariant-pages g l =
-    Written l.set.tasks (g.W.Sink.taken l.fn.sink) (g.W.Sink.taken l.sink) (lane_of (g.R.ShownRows.lanes l.rows) l.p) (g.R.ShownRows.left l.rows l.p l.place) l.count
+    Written l.set.tasks (g.W.Sink.taken l.fn.sink) (g.W.Sink.taken l.sink) (lane_of (g.R.ShownRows.lanes l.rows) l.p) (g.R.ShownRows.left l.rows l.p
+    l.place) l.count
     × (g.W.Sink.faults l.fn.sink ≤ g.W.Sink.faults l.sink)
     × NamesAmong (length l.set.tasks) (g.R.ShownRows.left l.rows l.p l.place)
 

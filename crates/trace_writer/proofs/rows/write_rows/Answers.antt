@@ -45,7 +45,8 @@ returns-in_err-count-clause-wrote g c =
     let many = c.processors-p-end.ensures.count in
     let within : p < length lanes = omega (arith, many, c.loop-p-test.true) in
     rw (all_text (row_line c.args.set.now.tasks) lanes)
-    (wrote_item (flat_map (row_line c.args.set.now.tasks)) lanes p lane _ _ _ _ _ within (get_or_default lanes p [] lane within) c.loop-p.invariant.0 c.in_err-count.ensures.wrote c.from_residual.ensures.0)
+    (wrote_item (flat_map (row_line c.args.set.now.tasks)) lanes p lane _ _ _ _ _ within (get_or_default lanes p [] lane within) c.loop-p.invariant.0
+    c.in_err-count.ensures.wrote c.from_residual.ensures.0)
 
 pub overflow_add-count : goal.overflow_add-count
 overflow_add-count g c =
@@ -70,7 +71,8 @@ loop-p-preserved g c =
     let more = all_more lanes p within in
     let so_far = c.loop-p.invariant.2 in
     let here = c.in_ok-count.ensures.count in (
-      item_written (flat_map (row_line c.args.set.now.tasks)) lanes p lane _ _ _ within (get_or_default lanes p [] lane within) c.loop-p.invariant.0 c.in_ok-count.ensures.wrote.ok,
+      item_written (flat_map (row_line c.args.set.now.tasks)) lanes p lane _ _ _ within (get_or_default lanes p [] lane within) c.loop-p.invariant.0
+          c.in_ok-count.ensures.wrote.ok,
       le_trans c.loop-p.invariant.1 c.write_lane.ensures.cause.later,
       omega (arith, more, so_far, here),
     )

@@ -15,7 +15,8 @@ pub returns-in_err-write_mets-clause-wrote : goal.returns-in_err-write_mets-clau
 returns-in_err-write_mets-clause-wrote g c =
     rw (trace_parts Two c.args.set.now c.args.scale (all_rows (g.R.ShownRows.lanes c.args.rows.now)))
     (wrote_then _ _ _ _ _ _ _ c.in_ok-count.ensures.wrote
-    (wrote_cut _ _ _ _ _ _ (c.in_err-write_mets.ensures.wrote c.args.scale (all_rows (g.R.ShownRows.lanes c.args.rows.now)) c.note_rows.ensures.done) c.from_residual-in_err-write_mets.ensures.0))
+    (wrote_cut _ _ _ _ _ _ (c.in_err-write_mets.ensures.wrote c.args.scale (all_rows (g.R.ShownRows.lanes c.args.rows.now)) c.note_rows.ensures.done)
+    c.from_residual-in_err-write_mets.ensures.0))
 
 pub returns-clause-wrote : goal.returns-clause-wrote
 returns-clause-wrote g c =

@@ -14,7 +14,8 @@ pub write_first_version-requires-clause-totals : goal.write_first_version-requir
 write_first_version-requires-clause-totals g c = ap length c.requires.totals ∙ length-totals_of (length c.args.set.now.tasks) c.args.table.now.lanes
 
 pub write_first_version-requires-clause-told : goal.write_first_version-requires-clause-told
-write_first_version-requires-clause-told g c = rw (all_merged c.args.table.now.lanes) (table_told c.args.set.now c.args.totals.now c.args.table.now.lanes c.know_whole.ensures.lawful c.requires.totals)
+write_first_version-requires-clause-told g c = rw (all_merged c.args.table.now.lanes) (table_told c.args.set.now c.args.totals.now c.args.table.now.lanes
+    c.know_whole.ensures.lawful c.requires.totals)
 
 pub returns-clause-wrote : goal.returns-clause-wrote
 returns-clause-wrote g c = rw (all_merged c.args.table.now.lanes) at c.write_first_version.ensures.wrote

@@ -36,7 +36,8 @@ returns-then-is_unfinished c =
     let iw = c.levels-l-end.ensures.lawful in
     let e : c.loop-l.l ≡ length w.levels = omega (arith, c.loop-l-test.false, c.loop-l.auto.l-end, c.levels-l-end.ensures.value) in
     let at : c.loop-l.line ≡ end_line w = c.loop-l.invariant.0 ∙ ap (level_line w) e in
-    subst (λ (n : ℕ). IsFirstFault w n Unfinished) (sym at) (first_at_end w iw.some_level (subst (IsFineBelow w) e c.loop-l.invariant.1) c.if-is_unfinished.ensures)
+    subst (λ (n : ℕ). IsFirstFault w n Unfinished) (sym at) (first_at_end w iw.some_level (subst (IsFineBelow w) e c.loop-l.invariant.1)
+    c.if-is_unfinished.ensures)
 
 pub returns : goal.returns
 returns c =

@@ -49,6 +49,7 @@ to_place-requires c = c.requires.level
 pub line_fault-requires-clause-marks : goal.line_fault-requires-clause-marks
 line_fault-requires-clause-marks c =
     let names = names_of c.args.tree.now c.args.l (level_at c.args.tree.now c.args.l) in
-    let marked = subst (λ (rates : List ℕ). AreMarks rates names c.scan-first.new.marks) (c.deref.ensures.value ∙ sym c.deref-2.ensures.value) c.scan-first.ensures.marks in
+    let marked = subst (λ (rates : List ℕ). AreMarks rates names c.scan-first.new.marks) (c.deref.ensures.value ∙ sym c.deref-2.ensures.value)
+    c.scan-first.ensures.marks in
     let kept = c.deref-3.ensures.value ∙ take_at c.scan-first.new.marks _ _ (omega (arith, c.scan-first.auto.marks, c.deref_mut.ensures.len)) in
     subst (λ (marks : List Bool). AreMarks c.deref-2.result.now names marks) (sym kept) marked

@@ -29,9 +29,11 @@ loop-member-preserved c =
     ] in (
       c.mark-placed.auto.marks ∙ c.loop-member.invariant.0,
       (λ names a. subst (λ (b : Bool). Placing rates names (map f (take (k + 1) ms)) b c.mark-placed.new.marks) (sym good)
-          (place_step rates f ms k x c.named-name.result c.loop-member.good c.mark-placed.result c.loop-member.marks c.mark-placed.new.marks step names (c.loop-member.invariant.1 names a))),
+          (place_step rates f ms k x c.named-name.result c.loop-member.good c.mark-placed.result c.loop-member.marks c.mark-placed.new.marks step names
+          (c.loop-member.invariant.1 names a))),
       c.saturating_add-sum.ensures ∙ ap (λ r. min (c.loop-member.sum + r) (2 ^ 128 - 1)) c.rate_named.ensures
-          ∙ sum_step rates f ms k x c.named-name.result c.loop-member.sum c.loop-member-test.true c.member-item.is c.named-name.ensures c.loop-member.invariant.2,
+          ∙ sum_step rates f ms k x c.named-name.result c.loop-member.sum c.loop-member-test.true c.member-item.is c.named-name.ensures
+          c.loop-member.invariant.2,
     )
 
 pub returns-then-good-2-clause-marks : goal.returns-then-good-2-clause-marks

@@ -16,7 +16,8 @@ packs-requires c = omega (arith, c.loop-l-test.true, c.levels-levels.ensures.val
 pub add_level-requires : goal.add_level-requires
 add_level-requires c =
     let low : c.loop-l.l < length c.args.tree.now.levels = omega (arith, c.loop-l-test.true, c.levels-levels.ensures.value) in
-    let step = level_step c.args.tree.now c.levels-levels.ensures.lawful c.requires.no_fault c.loop-l.l c.loop-l.auto.l low c.loop-l.maker c.packs.result.now c.loop-l.invariant c.packs.ensures in
+    let step = level_step c.args.tree.now c.levels-levels.ensures.lawful c.requires.no_fault c.loop-l.l c.loop-l.auto.l low c.loop-l.maker
+    c.packs.result.now c.loop-l.invariant c.packs.ensures in
     record { few = step.few; few_levels = step.few_levels; some = step.some; order = step.order }
 
 pub loop-l-preserved : goal.loop-l-preserved
@@ -24,13 +25,20 @@ loop-l-preserved c =
     let low : c.loop-l.l < length c.args.tree.now.levels = omega (arith, c.loop-l-test.true, c.levels-levels.ensures.value) in
     let z : c.loop-l.l ≡ c.loop-l.l + 1 - 1 = omega arith in
     c.in_ok-add_level.ensures
-    ∙ (level_step c.args.tree.now c.levels-levels.ensures.lawful c.requires.no_fault c.loop-l.l c.loop-l.auto.l low c.loop-l.maker c.packs.result.now c.loop-l.invariant c.packs.ensures).next
+    ∙ (level_step c.args.tree.now c.levels-levels.ensures.lawful c.requires.no_fault c.loop-l.l c.loop-l.auto.l low c.loop-l.maker c.packs.result.now
+    c.loop-l.invariant c.packs.ensures).next
     ∙ ap (text_making c.args.tree.now) z
 
 pub returns : goal.returns
 returns c =
     let w = c.args.tree.now in
-    let last : c.loop-l.l - 1 ≡ length w.levels - 1 = omega (arith, c.loop-l-test.false, c.loop-l.auto.l-end, c.levels-levels.ensures.value, c.levels-levels.ensures.lawful.some_level) in
+    let last : c.loop-l.l - 1 ≡ length w.levels - 1 = omega (
+      arith,
+      c.loop-l-test.false,
+      c.loop-l.auto.l-end,
+      c.levels-levels.ensures.value,
+      c.levels-levels.ensures.lawful.some_level,
+    ) in
     c.loop-l.invariant ∙ ap (text_making w) last
 
 pub returns-in_err-rates : goal.returns-in_err-rates

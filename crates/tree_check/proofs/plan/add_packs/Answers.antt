@@ -12,8 +12,10 @@ pub loop-i-preserved : goal.loop-i-preserved
 loop-i-preserved c =
     let packs = c.args.packs.now in
     let i = c.loop-i.i in
-    let members = c.members.ensures ∙ ap (λ (p : Pack). p.members) (c.index-packs-i.is ∙ get_or_default packs i c.index-packs-i.result no_pack c.loop-i-test.true) in
-    listed_more packs i c.members.result.now _ _ _ _ c.loop-i-test.true members c.loop-i.invariant c.in_ok-add_members.ensures.order c.in_ok-add_members.ensures.homes
+    let members = c.members.ensures ∙ ap (λ (p : Pack). p.members) (c.index-packs-i.is ∙ get_or_default packs i c.index-packs-i.result no_pack
+    c.loop-i-test.true) in
+    listed_more packs i c.members.result.now _ _ _ _ c.loop-i-test.true members c.loop-i.invariant c.in_ok-add_members.ensures.order
+    c.in_ok-add_members.ensures.homes
 
 pub returns-clause-order : goal.returns-clause-order
 returns-clause-order c = listed_orders c.args.packs.now c.loop-i.i _ _ c.loop-i-test.false c.loop-i.invariant

@@ -36,7 +36,8 @@ add_leaves-requires c =
       pack = omega (arith, c.loop-i-test.true, ap length c.packs-pack-items.ensures);
       members =
           c.members.ensures
-          ∙ ap (λ (p : Pack). p.members) (c.pack-item.is ∙ get_or_default packs i c.pack-item.result no_pack c.loop-i-test.true ∙ ap (λ (ps : List Pack). get_or ps i no_pack) c.packs-pack-items.ensures);
+          ∙ ap (λ (p : Pack). p.members) (c.pack-item.is ∙ get_or_default packs i c.pack-item.result no_pack c.loop-i-test.true
+          ∙ ap (λ (ps : List Pack). get_or ps i no_pack) c.packs-pack-items.ensures);
       maker = c.loop-i.invariant;
     }
 

@@ -20,9 +20,11 @@ new-requires c =
     let set : c.in_ok-set.set ≡ w.set = c.in_ok-set.ensures ∙ c.set.ensures.value in
     let tree : c.in_ok-tree_of.field-0 ≡ text_tree w = c.in_ok-tree_of.ensures in
     record {
-      scale = subst (λ (s : SetContents). IsScale s.tasks c.scale-scale.result) (sym set) (subst (IsScale w.set.tasks) (sym c.scale-scale.ensures.value) iw.is_scale);
+      scale = subst (λ (s : SetContents). IsScale s.tasks c.scale-scale.result) (sym set) (subst (IsScale w.set.tasks) (sym c.scale-scale.ensures.value)
+          iw.is_scale);
       made = ap (λ (t : Tree). t.scale) tree ∙ scale_is w iw c.requires ∙ sym c.scale-scale.ensures.value;
-      tree = subst (λ (t : Tree). IsTreeOf c.in_ok-set.set t) (sym tree) (subst (λ (s : SetContents). IsTreeOf s (text_tree w)) (sym set) (text_is_tree_of w iw c.requires));
+      tree = subst (λ (t : Tree). IsTreeOf c.in_ok-set.set t) (sym tree) (subst (λ (s : SetContents). IsTreeOf s (text_tree w)) (sym set)
+          (text_is_tree_of w iw c.requires));
     }
 
 pub returns-clause-plan : goal.returns-clause-plan

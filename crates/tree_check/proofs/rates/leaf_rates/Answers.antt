@@ -17,7 +17,8 @@ rate-requires c =
     let iw = c.scale-scale.ensures.lawful in
     let P : List Task → Type 0 = λ ts. PeriodsDivide ts c.scale-scale.result in
     let Q : ℕ → Type 0 = λ s. PeriodsDivide c.args.tree.now.set.tasks s in
-    let divided = subst P (sym (c.tasks-task-items.ensures.value ∙ ap (λ (s : SetContents). s.tasks) c.set.ensures.value)) (subst Q (sym c.scale-scale.ensures.value) iw.is_scale.divided) in
+    let divided = subst P (sym (c.tasks-task-items.ensures.value ∙ ap (λ (s : SetContents). s.tasks) c.set.ensures.value))
+    (subst Q (sym c.scale-scale.ensures.value) iw.is_scale.divided) in
     let is = c.task-item.is ∙ get_or_default tasks c.loop-task.task-index c.task-item.result no_task c.loop-task-test.true in
     let each = subst (λ (ts : List Task). AllByRecursion IsLawfulTask ts) (sym c.tasks-task-items.ensures.value) c.tasks-task-items.ensures.lawful.each in
     let lawful = subst IsLawfulTask (sym is) (all_at IsLawfulTask no_task tasks c.loop-task.task-index each c.loop-task-test.true) in
@@ -27,16 +28,19 @@ rate-requires c =
       work_fits = lawful.work_fits;
       some_period = some;
       scale_fits = fits;
-      divides = subst (λ (t : Task). t.period ∣ c.scale-scale.result) (sym is) (period_divides tasks c.scale-scale.result c.loop-task.task-index divided c.loop-task-test.true);
+      divides = subst (λ (t : Task). t.period ∣ c.scale-scale.result) (sym is) (period_divides tasks c.scale-scale.result c.loop-task.task-index divided
+          c.loop-task-test.true);
     }
 
 pub loop-task-preserved : goal.loop-task-preserved
-loop-task-preserved c = mapped_more (rate_of c.scale-scale.result) c.tasks-task-items.result.now c.loop-task.task-index c.task-item.result _ _ c.rate.result c.loop-task-test.true c.task-item.is c.loop-task.invariant c.in_ok-push.ensures.items c.rate.ensures.value
+loop-task-preserved c = mapped_more (rate_of c.scale-scale.result) c.tasks-task-items.result.now c.loop-task.task-index c.task-item.result _ _ c.rate.result
+    c.loop-task-test.true c.task-item.is c.loop-task.invariant c.in_ok-push.ensures.items c.rate.ensures.value
 
 pub returns : goal.returns
 returns c =
     let tasks = c.tasks-task-items.ensures.value ∙ ap (λ (s : SetContents). s.tasks) c.set.ensures.value in
-    let rates = mapped_all (rate_of c.scale-scale.result) c.tasks-task-items.result.now c.loop-task.task-index _ c.loop-task-test.false c.loop-task.invariant ∙ ap₂ (λ (s : ℕ) (ts : List Task). map (rate_of s) ts) c.scale-scale.ensures.value tasks in
+    let rates = mapped_all (rate_of c.scale-scale.result) c.tasks-task-items.result.now c.loop-task.task-index _ c.loop-task-test.false
+    c.loop-task.invariant ∙ ap₂ (λ (s : ℕ) (ts : List Task). map (rate_of s) ts) c.scale-scale.ensures.value tasks in
     c.in_ok-extend_from_slice.ensures.items ∙ ap₂ (λ (xs ys : List ℕ). xs ++ ys) rates c.idles.ensures
 
 pub returns-in_err-push : goal.returns-in_err-push

@@ -24,12 +24,14 @@ pub returns-clause-next : goal.returns-clause-next
 returns-clause-next c = λ processors scale rates n fit up. (
     let m : Making = raised n (first_level processors scale rates) in
     let v = raised_level (first_level processors scale rates) (level_0_is processors scale rates fit) n up in
-    let same = (raised_above (first_level processors scale rates) (level_0_is processors scale rates fit) n up).scale_same ∙ (level_0_kept processors scale rates fit).0 in
+    let same = (raised_above (first_level processors scale rates) (level_0_is processors scale rates fit) n up).scale_same
+    ∙ (level_0_kept processors scale rates fit).0 in
     ap (λ s. lifted (lower_packs m) (homes s (lower_duals m)) m) (sym same) ∙ level_follows m v)
 
 pub returns-clause-next_rates : goal.returns-clause-next_rates
 returns-clause-next_rates c = λ processors scale rates n fit up. (
     let m : Making = raised n (first_level processors scale rates) in
     let v = raised_level (first_level processors scale rates) (level_0_is processors scale rates fit) n up in
-    let same = (raised_above (first_level processors scale rates) (level_0_is processors scale rates fit) n up).scale_same ∙ (level_0_kept processors scale rates fit).0 in
+    let same = (raised_above (first_level processors scale rates) (level_0_is processors scale rates fit) n up).scale_same
+    ∙ (level_0_kept processors scale rates fit).0 in
     level_rates m v ∙ ap (λ s. packed s (lower_duals m)) same)

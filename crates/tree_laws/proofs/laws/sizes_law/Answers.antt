@@ -32,15 +32,18 @@ pub returns-clause-rates : goal.returns-clause-rates
 returns-clause-rates c = λ processors scale rates n fit up. (
     let m : Making = raised n (first_level processors scale rates) in
     let v = raised_level (first_level processors scale rates) (level_0_is processors scale rates fit) n up in
-    let same = (raised_above (first_level processors scale rates) (level_0_is processors scale rates fit) n up).scale_same ∙ (level_0_kept processors scale rates fit).0 in
+    let same = (raised_above (first_level processors scale rates) (level_0_is processors scale rates fit) n up).scale_same
+    ∙ (level_0_kept processors scale rates fit).0 in
     let P : ℕ → Type 0 = λ s. All (λ rate. (1 ≤ rate) × (rate ≤ s)) (last_rates m) in
     subst P same (level_rates_fit m v))
 
 pub returns-clause-scale : goal.returns-clause-scale
-returns-clause-scale c = λ processors scale rates n fit up. (raised_above (first_level processors scale rates) (level_0_is processors scale rates fit) n up).scale_same ∙ (level_0_kept processors scale rates fit).0
+returns-clause-scale c = λ processors scale rates n fit up. (raised_above (first_level processors scale rates) (level_0_is processors scale rates fit) n
+    up).scale_same ∙ (level_0_kept processors scale rates fit).0
 
 pub returns-clause-processors : goal.returns-clause-processors
-returns-clause-processors c = λ processors scale rates n fit up. (raised_above (first_level processors scale rates) (level_0_is processors scale rates fit) n up).processors_same ∙ (level_0_kept processors scale rates fit).1
+returns-clause-processors c = λ processors scale rates n fit up. (raised_above (first_level processors scale rates) (level_0_is processors scale rates fit)
+    n up).processors_same ∙ (level_0_kept processors scale rates fit).1
 
 pub returns-clause-last : goal.returns-clause-last
 returns-clause-last c = λ processors scale rates n fit up done. last_level processors scale rates fit n up done

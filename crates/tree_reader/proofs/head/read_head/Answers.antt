@@ -23,7 +23,8 @@ pub returns-clause-read : goal.returns-clause-read
 returns-clause-read c =
     let s = c.in_ok-scale.ensures.read in (
       record { version = One; processors = c.in_ok-processors.processors; horizon = c.in_ok-horizon.horizon; scale = s.0; tasks = c.in_ok-tasks.tasks },
-      head_is (lines_of c.args.text.now) (lines_of c.in_ok-_version.rest.now) (lines_of c.in_ok-processors.rest.now) (lines_of c.in_ok-horizon.rest.now) (lines_of c.in_ok-scale.rest.now) (lines_of c.in_ok-tasks.rest.now)
+      head_is (lines_of c.args.text.now) (lines_of c.in_ok-_version.rest.now) (lines_of c.in_ok-processors.rest.now) (lines_of c.in_ok-horizon.rest.now)
+          (lines_of c.in_ok-scale.rest.now) (lines_of c.in_ok-tasks.rest.now)
           c.in_ok-_version._version c.in_ok-processors.processors c.in_ok-horizon.horizon s.0 c.in_ok-tasks.tasks
           c.in_ok-_version.ensures.read c.in_ok-processors.ensures.read c.in_ok-horizon.ensures.read s.1 c.in_ok-tasks.ensures.read,
       capped_is One 1 c.in_ok-processors.processors c.in_ok-horizon.horizon c.in_ok-scale.scale s.0 c.in_ok-tasks.tasks refl s.2,
@@ -38,26 +39,31 @@ returns-in_err-_version-clause-fault c =
 pub returns-in_err-processors-clause-fault : goal.returns-in_err-processors-clause-fault
 returns-in_err-processors-clause-fault c =
     let why = err_from_is_err_and c.from_residual-in_err-processors.result c.from_residual-in_err-processors.ensures.1 in
-    rw (why.1, why.2) (stops_at_processors (lines_of c.args.text.now) (lines_of c.in_ok-_version.rest.now) c.in_ok-_version._version c.in_err-processors.field-0.0.line
+    rw (why.1, why.2) (stops_at_processors (lines_of c.args.text.now) (lines_of c.in_ok-_version.rest.now) c.in_ok-_version._version
+    c.in_err-processors.field-0.0.line
     c.in_ok-_version.ensures.read c.in_err-processors.ensures.fault)
 
 pub returns-in_err-horizon-clause-fault : goal.returns-in_err-horizon-clause-fault
 returns-in_err-horizon-clause-fault c =
     let why = err_from_is_err_and c.from_residual-in_err-horizon.result c.from_residual-in_err-horizon.ensures.1 in
-    rw (why.1, why.2) (stops_at_horizon (lines_of c.args.text.now) (lines_of c.in_ok-_version.rest.now) (lines_of c.in_ok-processors.rest.now) c.in_ok-_version._version c.in_ok-processors.processors c.in_err-horizon.field-0.0.line
+    rw (why.1, why.2) (stops_at_horizon (lines_of c.args.text.now) (lines_of c.in_ok-_version.rest.now) (lines_of c.in_ok-processors.rest.now)
+    c.in_ok-_version._version c.in_ok-processors.processors c.in_err-horizon.field-0.0.line
     c.in_ok-_version.ensures.read c.in_ok-processors.ensures.read c.in_err-horizon.ensures.fault)
 
 pub returns-in_err-scale-clause-fault : goal.returns-in_err-scale-clause-fault
 returns-in_err-scale-clause-fault c =
     let why = err_from_is_err_and c.from_residual-in_err-scale.result c.from_residual-in_err-scale.ensures.1 in
-    rw (why.1, why.2) (stops_at_scale (lines_of c.args.text.now) (lines_of c.in_ok-_version.rest.now) (lines_of c.in_ok-processors.rest.now) (lines_of c.in_ok-horizon.rest.now) c.in_ok-_version._version c.in_ok-processors.processors c.in_ok-horizon.horizon c.in_err-scale.field-0.0.line
+    rw (why.1, why.2) (stops_at_scale (lines_of c.args.text.now) (lines_of c.in_ok-_version.rest.now) (lines_of c.in_ok-processors.rest.now)
+    (lines_of c.in_ok-horizon.rest.now) c.in_ok-_version._version c.in_ok-processors.processors c.in_ok-horizon.horizon c.in_err-scale.field-0.0.line
     c.in_ok-_version.ensures.read c.in_ok-processors.ensures.read c.in_ok-horizon.ensures.read c.in_err-scale.ensures.fault)
 
 pub returns-in_err-tasks-clause-fault : goal.returns-in_err-tasks-clause-fault
 returns-in_err-tasks-clause-fault c =
     let s = c.in_ok-scale.ensures.read in
     let why = err_from_is_err_and c.from_residual-in_err-tasks.result c.from_residual-in_err-tasks.ensures.1 in
-    rw (why.1, why.2) (stops_at_tasks (lines_of c.args.text.now) (lines_of c.in_ok-_version.rest.now) (lines_of c.in_ok-processors.rest.now) (lines_of c.in_ok-horizon.rest.now) (lines_of c.in_ok-scale.rest.now) c.in_ok-_version._version c.in_ok-processors.processors c.in_ok-horizon.horizon s.0 c.in_err-tasks.field-0.0.line
+    rw (why.1, why.2) (stops_at_tasks (lines_of c.args.text.now) (lines_of c.in_ok-_version.rest.now) (lines_of c.in_ok-processors.rest.now)
+    (lines_of c.in_ok-horizon.rest.now) (lines_of c.in_ok-scale.rest.now) c.in_ok-_version._version c.in_ok-processors.processors
+    c.in_ok-horizon.horizon s.0 c.in_err-tasks.field-0.0.line
     c.in_ok-_version.ensures.read c.in_ok-processors.ensures.read c.in_ok-horizon.ensures.read s.1 c.in_err-tasks.ensures.fault)
 
 pub returns-in_err-_version-clause-read : goal.returns-in_err-_version-clause-read

@@ -19,7 +19,8 @@ loop-rest-preserved c =
     let packs = read.0.items in
     let after = lines_of read.1.now in
     let count : c.len.result ≡ length items = omega (arith, c.len.ensures, c.loop-rest.levels.ok.0) in
-    let level = subst (λ (k : ℕ). level_from scale k at c.first_line.result.0.now (lines_of c.first_line.result.1.now) ≡ Ok (packs, after)) count c.in-Ok-read_level.ensures.read in
+    let level = subst (λ (k : ℕ). level_from scale k at c.first_line.result.0.now (lines_of c.first_line.result.1.now) ≡ Ok (packs, after)) count
+    c.in-Ok-read_level.ensures.read in
     let lawful = subst (λ (k : ℕ). IsWrittenLevel scale k packs) count c.in-Ok-read_level.ensures.lawful in
     let pushed : c.push.new.self.items ≡ items ++ packs ∷ [] = c.in_ok-push.ensures.items ∙ ap (λ x. items ++ x ∷ []) c.new.ensures in
     let lines_more = sum_by_push (λ (ps : List Pack). suc (length ps)) items packs in
@@ -40,9 +41,12 @@ returns-in-Err-read_level-clause-fault c =
     let items = c.loop-rest.levels.items in
     let lines = lines_of c.loop-rest.rest.now in
     let count : c.len.result ≡ length items = omega (arith, c.len.ensures, c.loop-rest.levels.ok.0) in
-    let level = subst (λ (k : ℕ). NamesBadLine (level_from c.args.scale k c.loop-rest.at c.first_line.result.0.now (lines_of c.first_line.result.1.now)) c.in-Err-read_level.fault) count c.in-Err-read_level.ensures.fault in
-    stops_same (levels_from c.args.scale c.args.first 0 [] (lines_of c.args.text.now)) (levels_from c.args.scale c.loop-rest.at 0 items lines) c.in-Err-read_level.fault c.loop-rest.invariant.0
-    (levels_stop c.args.scale c.loop-rest.at items lines (lines_of c.first_line.result.1.now) c.first_line.result.0.now c.in-Err-read_level.fault c.first_line.ensures.line (sym c.if-begins_end.ensures) level)
+    let level = subst (λ (k : ℕ). NamesBadLine (level_from c.args.scale k c.loop-rest.at c.first_line.result.0.now (lines_of c.first_line.result.1.now))
+    c.in-Err-read_level.fault) count c.in-Err-read_level.ensures.fault in
+    stops_same (levels_from c.args.scale c.args.first 0 [] (lines_of c.args.text.now)) (levels_from c.args.scale c.loop-rest.at 0 items lines)
+    c.in-Err-read_level.fault c.loop-rest.invariant.0
+    (levels_stop c.args.scale c.loop-rest.at items lines (lines_of c.first_line.result.1.now) c.first_line.result.0.now c.in-Err-read_level.fault
+    c.first_line.ensures.line (sym c.if-begins_end.ensures) level)
 
 pub returns-in_err-push-clause-read : goal.returns-in_err-push-clause-read
 returns-in_err-push-clause-read c = IfOk-from_err _ _ c.from_residual.ensures.0
@@ -73,7 +77,8 @@ returns-in-Ok-clause-lawful c = c.loop-rest.invariant.3
 
 pub read_level-requires-clause-at : goal.read_level-requires-clause-at
 read_level-requires-clause-at c =
-    later_fits c.loop-rest.at (length c.first_line.result.1.now) (length c.loop-rest.rest.now) c.args.first (length c.args.text.now) c.first_line.ensures.less c.loop-rest.invariant.2 c.requires.first
+    later_fits c.loop-rest.at (length c.first_line.result.1.now) (length c.loop-rest.rest.now) c.args.first (length c.args.text.now)
+    c.first_line.ensures.less c.loop-rest.invariant.2 c.requires.first
 
 pub loop-rest-smaller : goal.loop-rest-smaller
 loop-rest-smaller c = rest_smaller _ _ _ _ c.in-Ok-read_level.ensures.less c.first_line.ensures.less

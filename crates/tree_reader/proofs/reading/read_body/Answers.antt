@@ -9,7 +9,8 @@ use Rattle.tree_reader.proofs.reading.read_body.Goals as goal
 pub returns-in_err-count-clause-fault : goal.returns-in_err-count-clause-fault
 returns-in_err-count-clause-fault c =
     let why = err_from_is_err_and c.from_residual.result c.from_residual.ensures.1 in
-    rw (why.1, why.2) (body_count c.args.set c.args.scale _ (lines_of c.args.text.now) (Err c.in_err-count.field-0.0.line) (omega arith) c.in_err-count.ensures.fault)
+    rw (why.1, why.2) (body_count c.args.set c.args.scale _ (lines_of c.args.text.now) (Err c.in_err-count.field-0.0.line) (omega arith)
+    c.in_err-count.ensures.fault)
 
 pub read_idles-requires-clause-scale : goal.read_idles-requires-clause-scale
 read_idles-requires-clause-scale c = (is_scale_to c.args.set.tasks c.args.scale c.requires).1
@@ -20,7 +21,8 @@ read_levels-requires-clause-scale c = (is_scale_to c.args.set.tasks c.args.scale
 pub new-requires : goal.new-requires
 new-requires c =
     let w : Written = record { set = c.args.set; scale = c.args.scale; idles = c.in_ok-idles.idles.items; levels = c.in_ok-levels.levels.items } in
-    written_is w c.count.ensures.lawful c.requires (omega (arith, c.in_ok-idles.ensures.count, c.in_ok-count.ensures.limits)) c.in_ok-idles.ensures.each c.in_ok-levels.ensures.some c.in_ok-levels.ensures.lawful
+    written_is w c.count.ensures.lawful c.requires (omega (arith, c.in_ok-idles.ensures.count, c.in_ok-count.ensures.limits)) c.in_ok-idles.ensures.each
+    c.in_ok-levels.ensures.some c.in_ok-levels.ensures.lawful
     (omega (arith, c.in_ok-levels.ensures.lines, c.from-after_tasks.ensures, c.count.ensures.value, c.len.ensures))
 
 pub returns-in_err-count-clause-tree : goal.returns-in_err-count-clause-tree

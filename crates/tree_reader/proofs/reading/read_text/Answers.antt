@@ -15,12 +15,14 @@ pub returns-in_err-set-clause-fault : goal.returns-in_err-set-clause-fault
 returns-in_err-set-clause-fault c =
     let why = err_from_is_err_and c.from_residual-in_err-set.result c.from_residual-in_err-set.ensures.1 in
     let h = c.in_ok-head.ensures.read in
-    rw (why.1, why.2) (stops_in_tasks c.args.bytes.now c.in_ok-head.head h.0 (lines_of c.in_ok-head.rest.now) c.in_err-set.field-0.0 h.1 h.2 c.in_ok-head.ensures.version c.in_err-set.ensures.fault)
+    rw (why.1, why.2) (stops_in_tasks c.args.bytes.now c.in_ok-head.head h.0 (lines_of c.in_ok-head.rest.now) c.in_err-set.field-0.0 h.1 h.2
+    c.in_ok-head.ensures.version c.in_err-set.ensures.fault)
 
 pub returns-then-not-is_scale-clause-fault : goal.returns-then-not-is_scale-clause-fault
 returns-then-not-is_scale-clause-fault c =
     let h = c.in_ok-head.ensures.read in
-    stops_at_scale c.args.bytes.now c.in_ok-head.head h.0 (lines_of c.in_ok-head.rest.now) (lines_of c.in_ok-set.rest.now) c.in_ok-set.set.tasks h.1 h.2 c.in_ok-head.ensures.version
+    stops_at_scale c.args.bytes.now c.in_ok-head.head h.0 (lines_of c.in_ok-head.rest.now) (lines_of c.in_ok-set.rest.now) c.in_ok-set.set.tasks h.1 h.2
+    c.in_ok-head.ensures.version
     c.in_ok-set.ensures.tasks (sym c.if-not-is_scale.ensures)
 
 pub returns-clause-tree : goal.returns-clause-tree
@@ -29,7 +31,8 @@ returns-clause-tree c =
     let head = c.in_ok-head.head in
     let set = c.in_ok-set.set in
     let same = set_is set head c.in_ok-set.ensures.processors c.in_ok-set.ensures.horizon in
-    let whole = reading_body c.args.bytes.now head h.0 (lines_of c.in_ok-head.rest.now) (lines_of c.in_ok-set.rest.now) set h.1 h.2 c.in_ok-head.ensures.version c.in_ok-set.ensures.tasks (sym c.if-not-is_scale.ensures) same in
+    let whole = reading_body c.args.bytes.now head h.0 (lines_of c.in_ok-head.rest.now) (lines_of c.in_ok-set.rest.now) set h.1 h.2
+    c.in_ok-head.ensures.version c.in_ok-set.ensures.tasks (sym c.if-not-is_scale.ensures) same in
     ok_same c.read_body.result (reading c.args.bytes.now) (body set head.scale (lines_of c.in_ok-set.rest.now)) whole c.read_body.ensures.tree
 
 pub returns-clause-fault : goal.returns-clause-fault
@@ -38,7 +41,8 @@ returns-clause-fault c =
     let head = c.in_ok-head.head in
     let set = c.in_ok-set.set in
     let same = set_is set head c.in_ok-set.ensures.processors c.in_ok-set.ensures.horizon in
-    let whole = reading_body c.args.bytes.now head h.0 (lines_of c.in_ok-head.rest.now) (lines_of c.in_ok-set.rest.now) set h.1 h.2 c.in_ok-head.ensures.version c.in_ok-set.ensures.tasks (sym c.if-not-is_scale.ensures) same in
+    let whole = reading_body c.args.bytes.now head h.0 (lines_of c.in_ok-head.rest.now) (lines_of c.in_ok-set.rest.now) set h.1 h.2
+    c.in_ok-head.ensures.version c.in_ok-set.ensures.tasks (sym c.if-not-is_scale.ensures) same in
     err_same c.read_body.result (reading c.args.bytes.now) (body set head.scale (lines_of c.in_ok-set.rest.now)) whole c.read_body.ensures.fault
 
 pub returns-in_err-head-clause-tree : goal.returns-in_err-head-clause-tree

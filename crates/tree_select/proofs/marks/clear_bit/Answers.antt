@@ -8,4 +8,5 @@ pub returns-clause-own : goal.returns-clause-own
 returns-clause-own c = changed_own c.args.words.now _ c.args.n _ c.requires refl false (off_bit _ _ (bit_at_clear_same w64 _ _ (omega arith)))
 
 pub returns-clause-rest : goal.returns-clause-rest
-returns-clause-rest c = changed_rest c.args.words.now _ c.args.n _ c.requires refl (λ i l ne. ap (λ b. nat_eq b 1) (bit_at_clear_other w64 _ _ (omega arith) i l ne))
+returns-clause-rest c = changed_rest c.args.words.now _ c.args.n _ c.requires refl (λ i l ne. ap (λ b. nat_eq b 1) (bit_at_clear_other w64 _ _ (omega arith)
+    i l ne))

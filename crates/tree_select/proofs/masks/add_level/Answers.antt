@@ -20,7 +20,8 @@ loop-word-preserved c =
           (let many = c.nodes.ensures.value in
           let on = c.loop-word-test.true in
           let group : IsGroupOf t l (record { word = word; mask = mask }) = record { near = omega (arith, many, on); bits = c.mask_of-mask.ensures } in
-          subst (λ (gs : List Group). AreGrown t before gs l (word + 1)) (sym w.in_ok-push.ensures.items ∙ ap (λ (v : Vec Group Global). v.items) (sym w.groups-is))
+          subst (λ (gs : List Group). AreGrown t before gs l (word + 1)) (sym w.in_ok-push.ensures.items ∙ ap (λ (v : Vec Group Global). v.items)
+          (sym w.groups-is))
           (grown_more t before c.loop-word.groups.items l (record { word = word; mask = mask }) group c.loop-word.invariant))
       | else-mask-ne0 w ↦
           (let none = w.if-mask-ne0.false in
@@ -33,7 +34,8 @@ returns-clause-span c =
     let many = c.nodes.ensures.value in
     let off = c.loop-word-test.false in
     grown_all c.args.tree.now c.args.groups.now.items c.loop-word.groups.items c.args.level c.loop-word.word _ (omega (arith, many, off))
-    (let from = c.len-from.ensures in let ok = c.args.groups.now.ok.0 in omega (arith, from, ok)) (let to = c.len.ensures in let ok = c.loop-word.groups.ok.0 in omega (arith, to, ok)) c.loop-word.invariant
+    (let from = c.len-from.ensures in let ok = c.args.groups.now.ok.0 in omega (arith, from, ok)) (let to = c.len.ensures in
+    let ok = c.loop-word.groups.ok.0 in omega (arith, to, ok)) c.loop-word.invariant
 
 pub returns-clause-kept : goal.returns-clause-kept
 returns-clause-kept c = c.loop-word.invariant.kept

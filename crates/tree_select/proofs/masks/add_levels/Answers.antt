@@ -10,7 +10,8 @@ loop-level-init c = record { long = ap (λ (xs : List Span). length xs) c.new-sp
 pub loop-level-preserved : goal.loop-level-preserved
 loop-level-preserved c =
     subst (λ (spans : List Span). AreSpansOf c.args.tree.now c.add_level.new.groups.items spans (c.loop-level.level + 1)) (sym c.in_ok-push.ensures.items)
-    (spans_more c.args.tree.now c.loop-level.groups.items c.add_level.new.groups.items c.loop-level.spans.items c.loop-level.level c.in_ok-add_level.field-0 c.in_ok-add_level.ensures.kept c.in_ok-add_level.ensures.span c.loop-level.invariant)
+    (spans_more c.args.tree.now c.loop-level.groups.items c.add_level.new.groups.items c.loop-level.spans.items c.loop-level.level c.in_ok-add_level.field-0
+    c.in_ok-add_level.ensures.kept c.in_ok-add_level.ensures.span c.loop-level.invariant)
 
 pub returns : goal.returns
 returns c =

@@ -25,4 +25,5 @@ loop-k-preserved c =
 
 pub returns : goal.returns
 returns c = let off = c.loop-k-test.false in let most = c.loop-k.auto.k-end in let all : c.loop-k.k ≡ 64 = omega (arith, off, most) in
-    bits_all c.args.tree.now c.args.level c.args.word c.loop-k.mask (subst (λ (k : ℕ). AreBitsBelow c.args.tree.now c.args.level c.args.word k c.loop-k.mask) all c.loop-k.invariant)
+    bits_all c.args.tree.now c.args.level c.args.word c.loop-k.mask (subst (λ (k : ℕ). AreBitsBelow c.args.tree.now c.args.level c.args.word k
+    c.loop-k.mask) all c.loop-k.invariant)

@@ -7,7 +7,8 @@ use Rattle.tree_select.proofs.ServedLemmas.{handed_served, handed_unmarked, hand
 use Rattle.tree_select.proofs.served.hand_over_in.Goals as goal
 
 -- the pack is handed on where its mark is gone
-handed : (t : Tree) (p : ℕ) (o : Option ℕ) (stale fewer runs stale' runs' : List Bool) → fewer ≡ set stale p false → IsHanded t p o fewer runs stale' runs' → IsHanded t p o (set stale p false) runs stale' runs'
+handed : (t : Tree) (p : ℕ) (o : Option ℕ) (stale fewer runs stale' runs' : List Bool) → fewer ≡ set stale p false → IsHanded t p o fewer runs stale' runs'
+    → IsHanded t p o (set stale p false) runs stale' runs'
 handed t p o stale fewer runs stale' runs' is x = subst (λ (s : List Bool). IsHanded t p o s runs stale' runs') is x
 
 pub unmark-requires : goal.unmark-requires
@@ -23,12 +24,15 @@ pub returns-clause-served : goal.returns-clause-served
 returns-clause-served c = λ remains ends is served.
     let long = c.requires.stale in
     let b = c.requires.pack.0 in
-    handed_served c.args.tree.now c.requires.tree remains ends c.args.p.0 c.args.chosen c.args.stale.now c.args.runs.now c.hand_on-is_other.new.stale c.hand_on-is_other.new.runs c.requires.pack (omega (arith, b, long))
-    (subst (λ (o : Option ℕ). IsHanded c.args.tree.now c.args.p.0 o (set c.args.stale.now c.args.p.0 false) c.args.runs.now c.hand_on-is_other.new.stale c.hand_on-is_other.new.runs) c.served_by-place.ensures.value (handed _ _ _ _ _ _ _ _ c.unmark.ensures c.hand_on-is_other.ensures.handed)) is served
+    handed_served c.args.tree.now c.requires.tree remains ends c.args.p.0 c.args.chosen c.args.stale.now c.args.runs.now c.hand_on-is_other.new.stale
+    c.hand_on-is_other.new.runs c.requires.pack (omega (arith, b, long))
+    (subst (λ (o : Option ℕ). IsHanded c.args.tree.now c.args.p.0 o (set c.args.stale.now c.args.p.0 false) c.args.runs.now c.hand_on-is_other.new.stale
+    c.hand_on-is_other.new.runs) c.served_by-place.ensures.value (handed _ _ _ _ _ _ _ _ c.unmark.ensures c.hand_on-is_other.ensures.handed)) is served
 
 pub returns-clause-unmarked : goal.returns-clause-unmarked
 returns-clause-unmarked c = λ q j ne off.
-    handed_unmarked c.args.tree.now c.requires.tree c.args.p.0 c.served_by-place.result c.args.stale.now c.args.runs.now c.hand_on-is_other.new.stale c.hand_on-is_other.new.runs (handed _ _ _ _ _ _ _ _ c.unmark.ensures c.hand_on-is_other.ensures.handed) q j ne off
+    handed_unmarked c.args.tree.now c.requires.tree c.args.p.0 c.served_by-place.result c.args.stale.now c.args.runs.now c.hand_on-is_other.new.stale
+    c.hand_on-is_other.new.runs (handed _ _ _ _ _ _ _ _ c.unmark.ensures c.hand_on-is_other.ensures.handed) q j ne off
 
 pub returns-clause-unchanged : goal.returns-clause-unchanged
 returns-clause-unchanged c = λ q j off. (c.hand_on-is_other.ensures.handed.unmarked q j off).1
@@ -52,10 +56,12 @@ pub returns-clause-own : goal.returns-clause-own
 returns-clause-own c =
     let long = c.requires.stale in
     let b = c.requires.pack.0 in
-    handed_mark c.args.tree.now c.requires.tree c.args.p.0 c.served_by-place.result c.args.stale.now c.args.runs.now c.hand_on-is_other.new.stale c.hand_on-is_other.new.runs c.requires.pack (omega (arith, b, long)) (handed _ _ _ _ _ _ _ _ c.unmark.ensures c.hand_on-is_other.ensures.handed)
+    handed_mark c.args.tree.now c.requires.tree c.args.p.0 c.served_by-place.result c.args.stale.now c.args.runs.now c.hand_on-is_other.new.stale
+    c.hand_on-is_other.new.runs c.requires.pack (omega (arith, b, long)) (handed _ _ _ _ _ _ _ _ c.unmark.ensures c.hand_on-is_other.ensures.handed)
 
 pub returns-clause-marks : goal.returns-clause-marks
-returns-clause-marks c = handed_marks c.args.tree.now c.requires.tree c.args.p.0 c.served_by-place.result c.args.stale.now c.args.runs.now c.hand_on-is_other.new.stale c.hand_on-is_other.new.runs (handed _ _ _ _ _ _ _ _ c.unmark.ensures c.hand_on-is_other.ensures.handed)
+returns-clause-marks c = handed_marks c.args.tree.now c.requires.tree c.args.p.0 c.served_by-place.result c.args.stale.now c.args.runs.now
+    c.hand_on-is_other.new.stale c.hand_on-is_other.new.runs (handed _ _ _ _ _ _ _ _ c.unmark.ensures c.hand_on-is_other.ensures.handed)
 
 pub bounds-runs-p : goal.bounds-runs-p
 bounds-runs-p c = let b = c.requires.pack.0 in let long = c.requires.runs in omega (arith, b, long)

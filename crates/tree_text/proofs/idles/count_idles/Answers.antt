@@ -13,9 +13,13 @@ loop-n-preserved c =
     let few = c.loop-n.invariant.1 in
     elim c.if-is_idle.branch [
       | then-is_idle w ↦
-          (let one = bit_at c.is_idle.result w.if-is_idle.true in let next = w.count-is in
-          (idles_next c.args.tree.now c.loop-n.n c.loop-n.count c.if-is_idle.count c.is_idle.result is c.loop-n.invariant.0 (omega (arith, next, one)), omega (arith, next, few)))
+          (let one = bit_at c.is_idle.result w.if-is_idle.true in let next = w.count-is in (
+            idles_next c.args.tree.now c.loop-n.n c.loop-n.count c.if-is_idle.count c.is_idle.result is c.loop-n.invariant.0 (omega (arith, next, one)),
+            omega (arith, next, few),
+          ))
       | else-is_idle w ↦
-          (let none = bit_off c.is_idle.result w.if-is_idle.false in let next = w.count-is in
-          (idles_next c.args.tree.now c.loop-n.n c.loop-n.count c.if-is_idle.count c.is_idle.result is c.loop-n.invariant.0 (omega (arith, next, none)), omega (arith, next, few)))
+          (let none = bit_off c.is_idle.result w.if-is_idle.false in let next = w.count-is in (
+            idles_next c.args.tree.now c.loop-n.n c.loop-n.count c.if-is_idle.count c.is_idle.result is c.loop-n.invariant.0 (omega (arith, next, none)),
+            omega (arith, next, few),
+          ))
     ]

@@ -14,4 +14,5 @@ returns-then-eq c =
 pub returns : goal.returns
 returns c =
     let end : c.packs-packs.result ≡ c.loop-i.i = omega (arith, c.loop-i-test.false, c.loop-i.auto.i-end) in
-    end ∙ sym (place_absent c.args.tree.now c.args.pack.0 c.level_of-level.result c.loop-i.i c.level_of-level.ensures.value (sym end ∙ c.packs-packs.ensures) c.loop-i.invariant)
+    end ∙ sym (place_absent c.args.tree.now c.args.pack.0 c.level_of-level.result c.loop-i.i c.level_of-level.ensures.value (sym end
+    ∙ c.packs-packs.ensures) c.loop-i.invariant)

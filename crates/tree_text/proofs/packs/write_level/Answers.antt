@@ -5,7 +5,8 @@ use Rattle.tree_text.proofs.packs.write_level.Goals as goal
 
 pub returns-in_err-write_all-clause-wrote : goal.returns-in_err-write_all-clause-wrote
 returns-in_err-write_all-clause-wrote g c =
-    let head = rw (c.as_slice.ensures.bytes, c.numbers_line-line.ensures, c.from.ensures, c.from-2.ensures, c.packs-packs.ensures, c.tree.ensures.value) at c.in_err-write_all.ensures.wrote in
+    let head = rw (c.as_slice.ensures.bytes, c.numbers_line-line.ensures, c.from.ensures, c.from-2.ensures, c.packs-packs.ensures, c.tree.ensures.value) at
+    c.in_err-write_all.ensures.wrote in
     wrote_cut _ _ _ _ _ _ head c.from_residual.ensures.0
 
 pub returns-in_err-write_all-clause-cause : goal.returns-in_err-write_all-clause-cause
@@ -13,7 +14,8 @@ returns-in_err-write_all-clause-cause g c = cause_cut _ _ _ _ _ (le_refl _) c.in
 
 pub returns-clause-wrote : goal.returns-clause-wrote
 returns-clause-wrote g c =
-    let head = rw (c.as_slice.ensures.bytes, c.numbers_line-line.ensures, c.from.ensures, c.from-2.ensures, c.packs-packs.ensures, c.tree.ensures.value) at c.in_ok-write_all.ensures.wrote in
+    let head = rw (c.as_slice.ensures.bytes, c.numbers_line-line.ensures, c.from.ensures, c.from-2.ensures, c.packs-packs.ensures, c.tree.ensures.value) at
+    c.in_ok-write_all.ensures.wrote in
     wrote_then _ _ _ _ _ _ _ head c.write_packs.ensures.wrote
 
 pub returns-clause-cause : goal.returns-clause-cause

@@ -11,7 +11,8 @@ use Rattle.tree_text.proofs.packs.write_pack.Goals as goal
 pub loop-member-init : goal.loop-member-init
 loop-member-init g c =
     let told = rw c.tree.ensures.value at c.rate.ensures.value in
-    let line : c.start_of_pack-line.result ≡ pack_start c.args.plan.now c.args.pack.0 = c.start_of_pack-line.ensures ∙ ap (λ r. codes "pack " ++ decimal r) told in
+    let line : c.start_of_pack-line.result ≡ pack_start c.args.plan.now c.args.pack.0 = c.start_of_pack-line.ensures ∙ ap (λ r. codes "pack " ++ decimal r)
+    told in
     (rw line (added_none _ (pack_start c.args.plan.now c.args.pack.0)), le_refl _)
 
 pub spaced_word-word-requires : goal.spaced_word-word-requires
@@ -28,7 +29,8 @@ pub returns-in_err-add-clause-wrote : goal.returns-in_err-add-clause-wrote
 returns-in_err-add-clause-wrote g c =
     let all = rw c.tree-2.ensures.value at c.members-member-items.ensures in
     wrote_part _ _ _ _ c.from_residual.ensures.0
-    (pack_cut c.args.plan.now c.args.pack.0 c.members-member-items.result.now all c.loop-member.member-index _ _ _ c.loop-member.line c.loop-member.invariant.0 c.in_err-add.ensures.err)
+    (pack_cut c.args.plan.now c.args.pack.0 c.members-member-items.result.now all c.loop-member.member-index _ _ _ c.loop-member.line
+    c.loop-member.invariant.0 c.in_err-add.ensures.err)
 
 pub loop-member-preserved : goal.loop-member-preserved
 loop-member-preserved g c =
@@ -39,20 +41,25 @@ loop-member-preserved g c =
     let at = get_or_default ids c.loop-member.member-index none x c.loop-member-test.true in
     let added = rw (c.as_slice.ensures.bytes, c.spaced_word-word.ensures) at c.in_ok-add.ensures.ok in
     let before = c.loop-member.invariant.1 in
-    let later = c.add.ensures.cause.later in
-    (pack_next c.args.plan.now c.args.pack.0 ids all c.loop-member.member-index x _ _ _ c.loop-member.line c.add.new.line c.loop-member-test.true at c.loop-member.invariant.0 added, omega (arith, before, later))
+    let later = c.add.ensures.cause.later in (
+      pack_next c.args.plan.now c.args.pack.0 ids all c.loop-member.member-index x _ _ _ c.loop-member.line c.add.new.line c.loop-member-test.true at
+          c.loop-member.invariant.0 added,
+      omega (arith, before, later),
+    )
 
 pub returns-in_err-add-2-clause-wrote : goal.returns-in_err-add-2-clause-wrote
 returns-in_err-add-2-clause-wrote g c =
     let all = rw c.tree-2.ensures.value at c.members-member-items.ensures in
     wrote_part _ _ _ _ c.from_residual-in_err-add-2.ensures.0
-    (pack_cut c.args.plan.now c.args.pack.0 c.members-member-items.result.now all c.loop-member.member-index _ _ _ c.loop-member.line c.loop-member.invariant.0 c.in_err-add-2.ensures.err)
+    (pack_cut c.args.plan.now c.args.pack.0 c.members-member-items.result.now all c.loop-member.member-index _ _ _ c.loop-member.line
+    c.loop-member.invariant.0 c.in_err-add-2.ensures.err)
 
 pub returns-clause-wrote : goal.returns-clause-wrote
 returns-clause-wrote g c =
     let all = rw c.tree-2.ensures.value at c.members-member-items.ensures in
     let wrote = rw c.as_slice-2.ensures.bytes at c.write_all.ensures.wrote in
-    pack_done c.args.plan.now c.args.pack.0 c.members-member-items.result.now all c.loop-member.member-index _ _ _ _ c.loop-member.line c.add-2.new.line _ c.loop-member-test.false c.loop-member.invariant.0 c.in_ok-add-2.ensures.ok wrote
+    pack_done c.args.plan.now c.args.pack.0 c.members-member-items.result.now all c.loop-member.member-index _ _ _ _ c.loop-member.line c.add-2.new.line _
+    c.loop-member-test.false c.loop-member.invariant.0 c.in_ok-add-2.ensures.ok wrote
 
 pub returns-in_err-add-clause-cause : goal.returns-in_err-add-clause-cause
 returns-in_err-add-clause-cause g c = cause_cut _ _ _ _ _ c.loop-member.invariant.1 c.in_err-add.ensures.cause

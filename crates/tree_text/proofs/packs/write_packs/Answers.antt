@@ -23,7 +23,8 @@ returns-in_err-write_pack-clause-wrote g c =
     let within : c.loop-i.i < length (packs_at tree c.args.level) = omega (arith, count, c.loop-i-test.true) in
     let is = rw c.tree-in-loop-i.ensures.value at c.pack.ensures in
     let at = pack_at_place tree c.args.level c.loop-i.i c.pack.result.0 within is in
-    wrote_item (pack_line c.args.plan.now) (packs_at tree c.args.level) c.loop-i.i c.pack.result.0 _ _ _ _ _ within at c.loop-i.invariant.0 c.in_err-write_pack.ensures.wrote c.from_residual.ensures.0
+    wrote_item (pack_line c.args.plan.now) (packs_at tree c.args.level) c.loop-i.i c.pack.result.0 _ _ _ _ _ within at c.loop-i.invariant.0
+    c.in_err-write_pack.ensures.wrote c.from_residual.ensures.0
 
 pub loop-i-preserved : goal.loop-i-preserved
 loop-i-preserved g c =
@@ -33,8 +34,11 @@ loop-i-preserved g c =
     let is = rw c.tree-in-loop-i.ensures.value at c.pack.ensures in
     let at = pack_at_place tree c.args.level c.loop-i.i c.pack.result.0 within is in
     let before = c.loop-i.invariant.1 in
-    let later = c.write_pack.ensures.cause.later in
-    (item_written (pack_line c.args.plan.now) (packs_at tree c.args.level) c.loop-i.i c.pack.result.0 _ _ _ within at c.loop-i.invariant.0 c.in_ok-write_pack.ensures.wrote.ok, omega (arith, before, later))
+    let later = c.write_pack.ensures.cause.later in (
+      item_written (pack_line c.args.plan.now) (packs_at tree c.args.level) c.loop-i.i c.pack.result.0 _ _ _ within at c.loop-i.invariant.0
+          c.in_ok-write_pack.ensures.wrote.ok,
+      omega (arith, before, later),
+    )
 
 pub returns-in_err-write_pack-clause-cause : goal.returns-in_err-write_pack-clause-cause
 returns-in_err-write_pack-clause-cause g c = cause_cut _ _ _ _ _ c.loop-i.invariant.1 c.in_err-write_pack.ensures.cause

@@ -38,13 +38,15 @@ returns-in_err-write_levels-clause-wrote g c =
 
 pub returns-in_err-write_levels-clause-cause : goal.returns-in_err-write_levels-clause-cause
 returns-in_err-write_levels-clause-cause g c =
-    cause_cut _ _ _ _ _ (le_trans (le_trans c.write_head.ensures.cause.later c.write_tasks.ensures.cause.later) c.write_idles.ensures.cause.later) c.in_err-write_levels.ensures.cause
+    cause_cut _ _ _ _ _ (le_trans (le_trans c.write_head.ensures.cause.later c.write_tasks.ensures.cause.later) c.write_idles.ensures.cause.later)
+    c.in_err-write_levels.ensures.cause
 
 pub returns-clause-wrote : goal.returns-clause-wrote
 returns-clause-wrote g c =
     let tasks = rw c.set.ensures.value at c.in_ok-write_tasks.ensures.wrote in
     let idles = rw c.tree.ensures.value at c.in_ok-write_idles.ensures.wrote in
-    let end = rw (c.as_slice.ensures.bytes, c.number_line-levels.ensures, c.from.ensures, c.levels.ensures.value, c.tree-2.ensures.value) at c.write_all.ensures.wrote in
+    let end = rw (c.as_slice.ensures.bytes, c.number_line-levels.ensures, c.from.ensures, c.levels.ensures.value, c.tree-2.ensures.value) at
+    c.write_all.ensures.wrote in
     wrote_then _ _ _ _ _ _ _ c.in_ok-write_head.ensures.wrote
     (wrote_then _ _ _ _ _ _ _ tasks
     (wrote_then _ _ _ _ _ _ _ idles
@@ -52,4 +54,5 @@ returns-clause-wrote g c =
 
 pub returns-clause-cause : goal.returns-clause-cause
 returns-clause-cause g c =
-    cause_then _ _ _ _ (le_trans (le_trans c.write_head.ensures.cause.later c.write_tasks.ensures.cause.later) (le_trans c.write_idles.ensures.cause.later c.write_levels.ensures.cause.later)) c.write_all.ensures.cause
+    cause_then _ _ _ _ (le_trans (le_trans c.write_head.ensures.cause.later c.write_tasks.ensures.cause.later) (le_trans c.write_idles.ensures.cause.later
+    c.write_levels.ensures.cause.later)) c.write_all.ensures.cause

@@ -10,7 +10,8 @@ walk-preserved c =
     let next = c.next_cut-q.ensures in
     let above = next.above in
     let few = c.walk.invariant.few in
-    let more = ap length (filter_next (is_cut c.args.scale c.args.rates.now) c.args.scale c.walk.q c.next_cut-q.result (c.walk.invariant.at c.walk-test.true) next) in
+    let more = ap length (filter_next (is_cut c.args.scale c.args.rates.now) c.args.scale c.walk.q c.next_cut-q.result
+    (c.walk.invariant.at c.walk-test.true) next) in
     let all = c.walk.invariant.all in
     record {
       at = next.at;

@@ -8,7 +8,8 @@ pub slices-init : goal.slices-init
 slices-init c = record {
   at = λ l. point_at_zero c.args.slices.now.set.now.tasks;
   within = omega arith;
-  before = none_before c.args.slices.now.set.now c.args.slices.now.scale c.know_lawful.ensures.lawful c.requires.slices.scale c.args.none c.args.slices.now.pattern.items c.requires.slices.pattern c.requires.none c.requires.start;
+  before = none_before c.args.slices.now.set.now c.args.slices.now.scale c.know_lawful.ensures.lawful c.requires.slices.scale c.args.none
+      c.args.slices.now.pattern.items c.requires.slices.pattern c.requires.none c.requires.start;
 }
 
 pub merge_slice-requires-clause-before : goal.merge_slice-requires-clause-before
@@ -25,7 +26,8 @@ slices-preserved c =
     record {
       at = next.at;
       within = next.within;
-      before = next_before s c.args.slices.now.scale c.know_lawful.ensures.lawful c.requires.slices.scale (length c.args.slices.now.pattern.items) c.slices.x c.next_point-y.result c.slices.merged _
+      before = next_before s c.args.slices.now.scale c.know_lawful.ensures.lawful c.requires.slices.scale (length c.args.slices.now.pattern.items)
+          c.slices.x c.next_point-y.result c.slices.merged _
           (c.slices.invariant.at early) next before (c.in_ok-merged.ensures before.done before.count before.so_far);
     }
 
@@ -33,13 +35,15 @@ pub returns-clause-rows : goal.returns-clause-rows
 returns-clause-rows c =
     let s = c.args.slices.now.set.now in
     let past : s.horizon ≤ c.slices.x = (let off = c.slices-test.false in let is = c.horizon.ensures.value in omega (arith, off, is)) in
-    all_merged_rows s c.args.slices.now.scale c.know_lawful.ensures.lawful c.requires.slices.scale c.requires.slices.fits (length c.args.slices.now.pattern.items) c.slices.x c.slices.merged c.slices.invariant.before past
+    all_merged_rows s c.args.slices.now.scale c.know_lawful.ensures.lawful c.requires.slices.scale c.requires.slices.fits
+    (length c.args.slices.now.pattern.items) c.slices.x c.slices.merged c.slices.invariant.before past
 
 pub returns-clause-lawful : goal.returns-clause-lawful
 returns-clause-lawful c =
     let s = c.args.slices.now.set.now in
     let past : s.horizon ≤ c.slices.x = (let off = c.slices-test.false in let is = c.horizon.ensures.value in omega (arith, off, is)) in
-    all_lawful s c.args.slices.now.scale c.know_lawful.ensures.lawful c.requires.slices.scale c.requires.slices.fits (length c.args.slices.now.pattern.items) c.slices.x c.slices.merged c.slices.invariant.before past c.requires.few
+    all_lawful s c.args.slices.now.scale c.know_lawful.ensures.lawful c.requires.slices.scale c.requires.slices.fits
+    (length c.args.slices.now.pattern.items) c.slices.x c.slices.merged c.slices.invariant.before past c.requires.few
 
 pub next_point-y-requires : goal.next_point-y-requires
 next_point-y-requires c =

@@ -36,7 +36,8 @@ pub of-requires-clause-scale_fits : goal.of-requires-clause-scale_fits
 of-requires-clause-scale_fits c = c.requires.scale_fits
 
 pub merge_slices-requires-clause-none : goal.merge_slices-requires-clause-none
-merge_slices-requires-clause-none c = rw c.in_ok-slices.ensures.of.0 (c.in_ok-none.ensures.none ∙ ap (λ n. replicate n []) c.processors-processors.ensures.value)
+merge_slices-requires-clause-none c = rw c.in_ok-slices.ensures.of.0 (c.in_ok-none.ensures.none ∙ ap (λ n. replicate n [])
+    c.processors-processors.ensures.value)
 
 pub merge_slices-requires-clause-start : goal.merge_slices-requires-clause-start
 merge_slices-requires-clause-start c = c.in_ok-none.ensures.start

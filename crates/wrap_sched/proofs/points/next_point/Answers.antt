@@ -17,7 +17,8 @@ next_boundary-requires-clause-lawful c =
     let tasks = c.tasks-tasks.result.now in
     let each = rw (← c.tasks-tasks.ensures.value) at c.tasks-tasks.ensures.lawful.each in
     let is = c.task-item.is ∙ get_or_default tasks c.loop-task.task-index c.task-item.result no_task c.loop-task-test.true in
-    subst IsLawfulTask (sym is) (All-get_or IsLawfulTask tasks c.loop-task.task-index no_task c.loop-task-test.true (All-from_recursion IsLawfulTask tasks each))
+    subst IsLawfulTask (sym is) (All-get_or IsLawfulTask tasks c.loop-task.task-index no_task c.loop-task-test.true (All-from_recursion IsLawfulTask tasks
+    each))
 
 pub next_boundary-requires-clause-early : goal.next_boundary-requires-clause-early
 next_boundary-requires-clause-early c = let fits = c.tasks-tasks.ensures.lawful.horizon_fits in omega (arith, c.requires, fits)
@@ -26,7 +27,8 @@ pub loop-task-preserved : goal.loop-task-preserved
 loop-task-preserved c =
     let b = c.next_boundary.ensures in
     rw c.min-next.ensures
-    (next_task c.tasks-tasks.result.now c.loop-task.task-index c.task-item.result c.args.set.now.horizon c.args.x c.loop-task.next c.next_boundary.result c.loop-task-test.true c.task-item.is c.loop-task.invariant b.above b.at b.none)
+    (next_task c.tasks-tasks.result.now c.loop-task.task-index c.task-item.result c.args.set.now.horizon c.args.x c.loop-task.next c.next_boundary.result
+    c.loop-task-test.true c.task-item.is c.loop-task.invariant b.above b.at b.none)
 
 pub returns : goal.returns
 returns c =
@@ -34,4 +36,5 @@ returns c =
     let tasks = c.tasks-tasks.result.now in
     let off = c.loop-task-test.false in
     let all = take_all c.loop-task.task-index tasks (omega (arith, off)) ∙ c.tasks-tasks.ensures.value in
-    next_is_point s.tasks s.horizon c.args.x c.loop-task.next (subst (λ (ts : List Task). IsNext (λ k. list_any (λ task. task_boundary task k) ts) s.horizon c.args.x c.loop-task.next) all c.loop-task.invariant)
+    next_is_point s.tasks s.horizon c.args.x c.loop-task.next (subst (λ (ts : List Task). IsNext (λ k. list_any (λ task. task_boundary task k) ts) s.horizon
+    c.args.x c.loop-task.next) all c.loop-task.invariant)

@@ -36,7 +36,8 @@ pub push_slice-requires-clause-room : goal.push_slice-requires-clause-room
 push_slice-requires-clause-room c =
     let s = c.args.slices.now.set.now in
     let early : c.slices.x < s.horizon = (let on = c.slices-test.true in let is = c.horizon.ensures.value in omega (arith, on, is)) in
-    let more = ap (λ xs. length c.args.slices.now.pattern.items * length xs) (filter_next (is_point s.tasks) s.horizon c.slices.x c.next_point-y.result (c.slices.invariant.at early) c.next_point-y.ensures) in
+    let more = ap (λ xs. length c.args.slices.now.pattern.items * length xs) (filter_next (is_point s.tasks) s.horizon c.slices.x c.next_point-y.result
+    (c.slices.invariant.at early) c.next_point-y.ensures) in
     let room = c.slices.invariant.room in
     let l : length c.args.slices.now.pattern.items ≤ c.slices.table.room = omega (arith, more, room) in
     l
@@ -62,7 +63,8 @@ slices-preserved c =
       rows = (
         done ++ f (slice_of c.slices.x y),
         c.push_slice.ensures.lanes done is,
-        append_assoc done (f (slice_of c.slices.x y)) rest ∙ ap (λ ss. done ++ flat_map f ss) (sym (spans_next (is_point s.tasks) s.horizon c.slices.x y at next)) ∙ all,
+        append_assoc done (f (slice_of c.slices.x y)) rest ∙ ap (λ ss. done ++ flat_map f ss) (sym (spans_next (is_point s.tasks) s.horizon c.slices.x y at
+            next)) ∙ all,
       );
       end = c.push_slice.ensures.end;
       whole = c.push_slice.ensures.whole;

@@ -12,7 +12,8 @@ invariant-slices l = record {
   at : l.x < l.slices.set.now.horizon → is_point l.slices.set.now.tasks l.x ≡ true;
   within : l.x ≤ l.slices.set.now.horizon;
   rows : (done : List Row) × (l.table.lanes ≡ lanes_of l.slices.set.now.processors done)
-      × (done ++ flat_map (slice_rows l.slices.scale l.slices.set.now.tasks l.slices.set.now.processors) (spans (filter (is_point l.slices.set.now.tasks) (range_with_len l.x (l.slices.set.now.horizon - l.x))) l.slices.set.now.horizon) ≡ wrapped l.slices.scale l.set);
+      × (done ++ flat_map (slice_rows l.slices.scale l.slices.set.now.tasks l.slices.set.now.processors) (spans (filter (is_point l.slices.set.now.tasks)
+      (range_with_len l.x (l.slices.set.now.horizon - l.x))) l.slices.set.now.horizon) ≡ wrapped l.slices.scale l.set);
   end : end_of l.table.lanes ≡ l.x * l.slices.scale;
   whole : length l.table.lanes ≡ l.slices.set.now.processors;
   room : l.table.room ≡ length l.slices.pattern.items * length (filter (is_point l.slices.set.now.tasks) (range_with_len l.x (l.slices.set.now.horizon - l.x)));

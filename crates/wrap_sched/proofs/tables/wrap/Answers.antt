@@ -9,7 +9,9 @@ pub returns-clause-valid : goal.returns-clause-valid
 returns-clause-valid c =
     let s = c.args.set.now in
     let stop = s.horizon * c.args.scale in
-    lanes_valid s c.args.scale stop stop (wrapped c.args.scale s) (wrapped_valid s c.args.scale c.processors-processors.ensures.lawful c.requires.scale c.requires.fits) c.push_slices.new.table.lanes (rw (c.in_ok-slices.ensures.of.0, c.in_ok-slices.ensures.of.1) at c.push_slices.ensures.lanes) c.know_whole.ensures.lawful
+    lanes_valid s c.args.scale stop stop (wrapped c.args.scale s) (wrapped_valid s c.args.scale c.processors-processors.ensures.lawful c.requires.scale
+    c.requires.fits) c.push_slices.new.table.lanes (rw (c.in_ok-slices.ensures.of.0, c.in_ok-slices.ensures.of.1) at c.push_slices.ensures.lanes)
+    c.know_whole.ensures.lawful
 
 pub returns-in_err-slices-clause-lanes : goal.returns-in_err-slices-clause-lanes
 returns-in_err-slices-clause-lanes c = IfOk-from_err _ _ c.from_residual-in_err-slices.ensures.0
@@ -54,7 +56,8 @@ pub of-requires-clause-scale_fits : goal.of-requires-clause-scale_fits
 of-requires-clause-scale_fits c = c.requires.scale_fits
 
 pub push_slices-requires-clause-none : goal.push_slices-requires-clause-none
-push_slices-requires-clause-none c = rw c.in_ok-slices.ensures.of.0 (c.in_ok-table.ensures.none ∙ ap (λ n. replicate n []) c.processors-processors.ensures.value)
+push_slices-requires-clause-none c = rw c.in_ok-slices.ensures.of.0 (c.in_ok-table.ensures.none ∙ ap (λ n. replicate n [])
+    c.processors-processors.ensures.value)
 
 pub push_slices-requires-clause-room : goal.push_slices-requires-clause-room
 push_slices-requires-clause-room c = rw (c.in_ok-slices.ensures.of.0, c.in_ok-slices.ensures.of.1) (c.in_ok-table.ensures.room ∙ c.requires.rounds)

@@ -12,5 +12,6 @@ invariant_of-result c =
     record {
       some = let many = ap length none ∙ length-replicate c.args.processors [] in let some = c.requires.some in omega (arith, many, some);
       few = let few = c.requires.few in omega (arith, room, no, few);
-      linked = linked_none lanes c.args.processors _ c.in_ok-links.links.items c.in_ok-latest_rows.latest_rows.items none c.in_ok-links.ensures c.in_ok-latest_rows.ensures;
+      linked = linked_none lanes c.args.processors _ c.in_ok-links.links.items c.in_ok-latest_rows.latest_rows.items none c.in_ok-links.ensures
+          c.in_ok-latest_rows.ensures;
     }

@@ -31,7 +31,8 @@ pub link_round-requires-clause-before : goal.link_round-requires-clause-before
 link_round-requires-clause-before c =
     let r = (goal.at.link_round-requires-clause-before c).After-push_round in
     let old = old r in
-    rw (c.push_round.ensures.lanes, round r) (linked-with_round old.lanes c.args.rows.now c.self.inside.links.items c.self.inside.latest_rows.items c.rounds-round.ensures.lawful c.self.invariant.linked)
+    rw (c.push_round.ensures.lanes, round r) (linked-with_round old.lanes c.args.rows.now c.self.inside.links.items c.self.inside.latest_rows.items
+    c.rounds-round.ensures.lawful c.self.invariant.linked)
 
 pub invariant_of-self : goal.invariant_of-self
 invariant_of-self c =
@@ -41,7 +42,9 @@ invariant_of-self c =
     let few = c.self.invariant.few in
     let room = c.push_round.ensures.room in
     record {
-      some = let same = ap length c.push_round.ensures.lanes ∙ length-with_round (old r).lanes c.args.rows.now in let some = c.self.invariant.some in omega (arith, same, some);
+      some = let same = ap length c.push_round.ensures.lanes ∙ length-with_round (old r).lanes c.args.rows.now in let some = c.self.invariant.some in
+          omega (arith, same, some);
       few = omega (arith, more, few, room);
-      linked = subst (λ n. AreLinked c.push_round.new.self.lanes n 0 c.link_round.new.links.items c.link_round.new.latest_rows.items) (omega (arith, more, before)) c.link_round.ensures;
+      linked = subst (λ n. AreLinked c.push_round.new.self.lanes n 0 c.link_round.new.links.items c.link_round.new.latest_rows.items)
+          (omega (arith, more, before)) c.link_round.ensures;
     }

@@ -24,11 +24,19 @@ pub invariant_of-self : goal.invariant_of-self
 invariant_of-self c =
     let r = (goal.at.invariant_of-self c).After-index_mut-lane in
     let items = c.self.inside.lanes.items in
-    let posted : c.index_mut-lane.result.now.posted ≡ posted_at c.args.self.now c.args.p = ap (λ (l : LaneState). l.posted) (here r) ∙ ap (λ (s : State). posted_at s c.args.p) c.self.view_is in
+    let posted : c.index_mut-lane.result.now.posted ≡ posted_at c.args.self.now c.args.p = ap (λ (l : LaneState). l.posted) (here r)
+    ∙ ap (λ (s : State). posted_at s c.args.p) c.self.view_is in
     let counted = c.requires.counted in
-    IsKept-same items c.args.p c.self.inside.least _ (within r) c.self.invariant (ap (λ (l : LaneState). l.posted) (here r)) (λ _. omega (arith, posted, counted))
+    IsKept-same items c.args.p c.self.inside.least _ (within r) c.self.invariant (ap (λ (l : LaneState). l.posted) (here r)) (λ _. omega (
+      arith,
+      posted,
+      counted,
+    ))
 
 pub returns : goal.returns
 returns c =
     let r = (goal.at.returns c).After-index_mut-lane in
-    rw (← c.self.view_is) (ap (λ (l : LaneState). record { lanes = slice_set c.self.inside.lanes.items c.args.p (record { posted = l.posted; out = true }); halted = c.self.inside.halted }) (here r))
+    rw (← c.self.view_is) (ap (λ (l : LaneState). record {
+      lanes = slice_set c.self.inside.lanes.items c.args.p (record { posted = l.posted; out = true });
+      halted = c.self.inside.halted;
+    }) (here r))

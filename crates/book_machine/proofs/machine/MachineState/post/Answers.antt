@@ -35,7 +35,8 @@ invariant_of-self-else-is_least c =
     let lane = c.index_mut-lane.result.now in
     let here : lane ≡ lane_at items p = c.index_mut-lane.ensures.value ∙ get_or_default items p lane at_start (out_within items p out) in
     let posted = ap (λ (l : LaneState). l.posted) here in
-    IsKept-above items p c.self.inside.least _ (out_within items p out) c.self.invariant (λ same. c.if-is_least.false (posted ∙ same)) (omega (arith, posted)) (λ o. absurd (let e : false ≡ true = o in cc))
+    IsKept-above items p c.self.inside.least _ (out_within items p out) c.self.invariant (λ same. c.if-is_least.false (posted ∙ same))
+    (omega (arith, posted)) (λ o. absurd (let e : false ≡ true = o in cc))
 
 pub index_mut-lane-requires : goal.index_mut-lane-requires
 index_mut-lane-requires c =
@@ -52,7 +53,8 @@ returns-then-is_least c =
     let within = out_within items p (subst (λ (s : State). IsOut s p) (sym c.self.view_is) c.requires) in
     let lane = c.index_mut-lane.result.now in
     let here : lane ≡ lane_at items p = c.index_mut-lane.ensures.value ∙ get_or_default items p lane at_start within in
-    rw (← c.self.view_is) (ap (λ (l : LaneState). record { lanes = slice_set items p (record { posted = l.posted + 1; out = false }); halted = c.self.inside.halted }) here)
+    rw (← c.self.view_is) (ap (λ (l : LaneState). record
+    { lanes = slice_set items p (record { posted = l.posted + 1; out = false }); halted = c.self.inside.halted }) here)
 
 pub returns-else-is_least : goal.returns-else-is_least
 returns-else-is_least c =
@@ -61,4 +63,5 @@ returns-else-is_least c =
     let within = out_within items p (subst (λ (s : State). IsOut s p) (sym c.self.view_is) c.requires) in
     let lane = c.index_mut-lane.result.now in
     let here : lane ≡ lane_at items p = c.index_mut-lane.ensures.value ∙ get_or_default items p lane at_start within in
-    rw (← c.self.view_is) (ap (λ (l : LaneState). record { lanes = slice_set items p (record { posted = l.posted + 1; out = false }); halted = c.self.inside.halted }) here)
+    rw (← c.self.view_is) (ap (λ (l : LaneState). record
+    { lanes = slice_set items p (record { posted = l.posted + 1; out = false }); halted = c.self.inside.halted }) here)

@@ -13,7 +13,8 @@ invariant_of-self c =
     let out : (lane_at items p).out ≡ true = subst (λ (s : State). IsOut s p) (sym c.self.view_is) c.requires in
     let lane = c.index_mut-lane.result.now in
     let here : lane ≡ lane_at items p = c.index_mut-lane.ensures.value ∙ get_or_default items p lane at_start (out_within items p out) in
-    IsKept-same items p c.self.inside.least _ (out_within items p out) c.self.invariant (ap (λ (l : LaneState). l.posted) here) (λ o. absurd (let e : false ≡ true = o in cc))
+    IsKept-same items p c.self.inside.least _ (out_within items p out) c.self.invariant (ap (λ (l : LaneState). l.posted) here)
+    (λ o. absurd (let e : false ≡ true = o in cc))
 
 pub index_mut-lane-requires : goal.index_mut-lane-requires
 index_mut-lane-requires c =

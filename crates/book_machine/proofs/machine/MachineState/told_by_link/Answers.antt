@@ -15,11 +15,16 @@ returns-then-round-self c =
     let same : c.args.round ≡ c.self.inside.least = c.if-round-self.true in (
       c.row-row.result,
       at (goal.at.returns-then-round-self c).After-row-row,
-      (λ _. earlier_at_least c.args.linked.now.lanes c.args.self.now c.args.p c.args.round c.row-row.result.leaf c.requires.lanes (omega (arith, least, same)), λ _. refl),
+      (
+        λ _. earlier_at_least c.args.linked.now.lanes c.args.self.now c.args.p c.args.round c.row-row.result.leaf c.requires.lanes
+            (omega (arith, least, same)),
+        λ _. refl,
+      ),
     )
 
 pub returns : goal.returns
 returns c =
     let r = c.row-row.result in
     let here = at (goal.at.returns c).After-row-row in
-    told_by_link c.args.linked.now.lanes c.args.self.now c.requires.in_order c.args.p c.args.round c.link.result r (c.link.ensures r here) here c.has_posted.result c.has_posted.ensures
+    told_by_link c.args.linked.now.lanes c.args.self.now c.requires.in_order c.args.p c.args.round c.link.result r (c.link.ensures r here) here
+    c.has_posted.result c.has_posted.ensures

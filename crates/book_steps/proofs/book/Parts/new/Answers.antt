@@ -106,9 +106,11 @@ returns-clause-last c = c.in_ok-new-2.ensures.last
 
 pub returns-clause-state : goal.returns-clause-state
 returns-clause-state c =
-    c.in_ok-new.ensures ∙ ap start (wide c.args.plan.now c.tree.result.now c.processors-processors.result c.processors-processors.ensures.value c.tree.ensures.value)
+    c.in_ok-new.ensures ∙ ap start (wide c.args.plan.now c.tree.result.now c.processors-processors.result c.processors-processors.ensures.value
+    c.tree.ensures.value)
 
 pub returns-clause-faults : goal.returns-clause-faults
 returns-clause-faults c =
     c.in_ok-vec-2.ensures.items_if_clones_equal (only_none _ (λ x same. same))
-    ∙ ap (λ (n : ℕ). replicate {A = Option ℕ} n None) (wide c.args.plan.now c.tree.result.now c.processors-processors.result c.processors-processors.ensures.value c.tree.ensures.value)
+    ∙ ap (λ (n : ℕ). replicate {A = Option ℕ} n None) (wide c.args.plan.now c.tree.result.now c.processors-processors.result
+    c.processors-processors.ensures.value c.tree.ensures.value)

@@ -18,7 +18,8 @@ invariant_of-result c =
       compiled = c.requires.compiled;
       some_window = c.requires.some_window;
       small_window = c.requires.small_window;
-      pending = PendingKept-start p lawful c.args.window parts.state are.state parts.pending are.source are.start are.width are.held are.computed are.given are.last;
+      pending = PendingKept-start p lawful c.args.window parts.state are.state parts.pending are.source are.start are.width are.held are.computed are.given
+          are.last;
       led = IsLed-start p lawful c.args.window parts.state are.state;
       totals = AreTotals-start p parts.state parts.totals.items p.tree.processors are.state are.totals;
       faults = AreFaults-start parts.state parts.pending.computed parts.faults.items p.tree.processors are.state are.faults;
@@ -35,6 +36,7 @@ returns c =
     let are = c.in_ok-pending.ensures in
     let table = rounds_up_to p parts.pending.source.tick in
     ap (λ s. held p w s table parts.totals.items parts.faults.items) are.state
-    ∙ ap (λ t. held p w (start p.tree.processors) t parts.totals.items parts.faults.items) (no_rows_yet p c.know_lawful.ensures.lawful parts.pending.source.tick are.start)
+    ∙ ap (λ t. held p w (start p.tree.processors) t parts.totals.items parts.faults.items) (no_rows_yet p c.know_lawful.ensures.lawful
+    parts.pending.source.tick are.start)
     ∙ ap (λ ticks. held p w (start p.tree.processors) (no_rows p) ticks parts.faults.items) are.totals
     ∙ ap (held p w (start p.tree.processors) (no_rows p) (replicate (length p.set.tasks) 0)) are.faults

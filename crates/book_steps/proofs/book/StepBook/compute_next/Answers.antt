@@ -83,10 +83,12 @@ invariant_of-self c =
       compiled = c.self.invariant.compiled;
       some_window = c.self.invariant.some_window;
       small_window = c.self.invariant.small_window;
-      pending = PendingKept-more c.self.inside.plan c.know_lawful.ensures.lawful c.self.inside.window c.self.inside.state c.self.inside.pending c.self.invariant.pending new done.belongs done.round done.width done.held done.computed done.given done.last (below r) (fits r);
+      pending = PendingKept-more c.self.inside.plan c.know_lawful.ensures.lawful c.self.inside.window c.self.inside.state c.self.inside.pending
+          c.self.invariant.pending new done.belongs done.round done.width done.held done.computed done.given done.last (below r) (fits r);
       led = c.self.invariant.led;
       totals = c.self.invariant.totals;
-      faults = AreFaults-more c.self.inside.state c.self.inside.pending.computed new.computed c.self.inside.faults.items (let one = done.computed in omega (arith, one)) c.self.invariant.faults;
+      faults = AreFaults-more c.self.inside.state c.self.inside.pending.computed new.computed c.self.inside.faults.items (let one = done.computed in
+          omega (arith, one)) c.self.invariant.faults;
     }
 
 pub returns-clause-book : goal.returns-clause-book
@@ -96,7 +98,9 @@ pub returns-clause-one_more : goal.returns-clause-one_more
 returns-clause-one_more c =
     let r = (goal.at.returns-clause-one_more c).After-know_lawful in
     let plan = c.self.inside.plan in
-    let kept = PendingKept-more plan c.know_lawful.ensures.lawful c.self.inside.window c.self.inside.state c.self.inside.pending c.self.invariant.pending c.compute_next.new.self c.compute_next.ensures.belongs c.compute_next.ensures.round c.compute_next.ensures.width c.compute_next.ensures.held c.compute_next.ensures.computed c.compute_next.ensures.given c.compute_next.ensures.last (below r) (fits r) in
+    let kept = PendingKept-more plan c.know_lawful.ensures.lawful c.self.inside.window c.self.inside.state c.self.inside.pending c.self.invariant.pending
+    c.compute_next.new.self c.compute_next.ensures.belongs c.compute_next.ensures.round c.compute_next.ensures.width c.compute_next.ensures.held
+    c.compute_next.ensures.computed c.compute_next.ensures.given c.compute_next.ensures.last (below r) (fits r) in
     rw (← c.self.view_is) (
     let before = (pending r).kept.rounds.count in
     let after = kept.kept.rounds.count in

@@ -42,7 +42,8 @@ invariant_of-self c =
       compiled = c.self.invariant.compiled;
       some_window = c.self.invariant.some_window;
       small_window = c.self.invariant.small_window;
-      pending = PendingKept-same plan lawful c.self.inside.window s q lane true c.self.inside.pending (pending r) (within r) refl (λ o. let e : false ≡ true = o in absurd (cc));
+      pending = PendingKept-same plan lawful c.self.inside.window s q lane true c.self.inside.pending (pending r) (within r) refl
+          (λ o. let e : false ≡ true = o in absurd (cc));
       led = IsLed-next plan lawful c.self.inside.window s c.self.invariant.led (Halt (processor q)) (out r);
       totals = AreTotals-same plan s c.self.inside.totals.items q lane true (within r) refl c.self.invariant.totals;
       faults = AreFaults-halt s c.self.inside.pending.computed q c.args.why lane c.self.inside.faults.items refl (below r) (within r) c.self.invariant.faults;

@@ -28,7 +28,8 @@ module _ (c : After-know_lawful) where
       omega (arith, low, is)
 
   in_all : c.args.p < length (plan_rows c.self.inside.plan)
-  in_all = (row_within (plan_rows c.self.inside.plan) (plan_table c.self.inside.plan c.know_lawful.ensures.lawful) c.args.p (posted_at c.self.inside.state c.args.p) ready.next.0 ready.next.1).0
+  in_all = (row_within (plan_rows c.self.inside.plan) (plan_table c.self.inside.plan c.know_lawful.ensures.lawful) c.args.p (posted_at c.self.inside.state
+      c.args.p) ready.next.0 ready.next.1).0
 
   within : c.args.p < length c.self.inside.state.lanes
   within = let low = in_all in let many = c.self.invariant.led.1.reached.lanes in omega (arith, low, many)
@@ -47,7 +48,8 @@ may : (c : After-know_lawful) (next : PendingRow) → IsPending (plan_rows c.arg
     → MayTake (plan_rows c.self.inside.plan) c.self.inside.window c.self.inside.state c.args.p next.row
 may c next is =
     let there = (rw (← c.self.view_is) at is).row in
-    ready_may_take (plan_rows c.self.inside.plan) c.self.inside.window c.self.inside.state c.args.p next.row (rw (← c.self.view_is) at c.requires.running) (rw (← c.self.view_is) at c.requires.free) there (ready c)
+    ready_may_take (plan_rows c.self.inside.plan) c.self.inside.window c.self.inside.state c.args.p next.row (rw (← c.self.view_is) at c.requires.running)
+    (rw (← c.self.view_is) at c.requires.free) there (ready c)
 
 pub hand_out-requires-clause-lane : goal.hand_out-requires-clause-lane
 hand_out-requires-clause-lane c = within (goal.at.hand_out-requires-clause-lane c).After-know_lawful

@@ -41,7 +41,8 @@ pub last-requires : goal.last-requires
 last-requires c = λ task is.
     let r = (goal.at.last-requires c).After-know_lawful in
     let named : task.0 < length c.self.inside.plan.set.tasks = rw (← c.self.view_is) at (c.requires.task task is) in
-    last_within c.self.inside.plan c.know_lawful.ensures.lawful c.self.inside.window c.self.inside.state c.self.inside.pending (pending r) c.args.q task.0 (inside r) named
+    last_within c.self.inside.plan c.know_lawful.ensures.lawful c.self.inside.window c.self.inside.state c.self.inside.pending (pending r) c.args.q task.0
+    (inside r) named
 
 pub has-requires : goal.has-requires
 has-requires c = λ i low.
@@ -49,7 +50,8 @@ has-requires c = λ i low.
     let least = c.least-least.ensures in
     let last = c.min-last.ensures in
     let count = c.saturating_sub.ensures in
-    rows_held c.self.inside.plan c.know_lawful.ensures.lawful c.self.inside.window c.self.inside.state c.self.inside.pending (pending r) c.args.q c.args.round c.args.leaf (inside r) (within r) (most r) i (omega (arith, low, least, last, count))
+    rows_held c.self.inside.plan c.know_lawful.ensures.lawful c.self.inside.window c.self.inside.state c.self.inside.pending (pending r) c.args.q
+    c.args.round c.args.leaf (inside r) (within r) (most r) i (omega (arith, low, least, last, count))
 
 pub returns-clause-some : goal.returns-clause-some
 returns-clause-some c = λ yes.
@@ -59,7 +61,8 @@ returns-clause-some c = λ yes.
     let least = c.least-least.ensures in
     let last = c.min-last.ensures in
     let count = c.saturating_sub.ensures in
-    rw (← c.self.view_is) (row_of_pending c.self.inside.plan c.know_lawful.ensures.lawful c.self.inside.window c.self.inside.state c.self.inside.pending (pending r) c.args.q c.args.round c.args.leaf (inside r) (within r) (most r)
+    rw (← c.self.view_is) (row_of_pending c.self.inside.plan c.know_lawful.ensures.lawful c.self.inside.window c.self.inside.state c.self.inside.pending
+    (pending r) c.args.q c.args.round c.args.leaf (inside r) (within r) (most r)
     i next (omega (arith, past, posted, least)) (omega (arith, low, least, last, count)) at is)
 
 pub returns-clause-none : goal.returns-clause-none
@@ -69,8 +72,11 @@ returns-clause-none c = λ no.
     let least = c.least-least.ensures in
     let last = c.min-last.ensures in
     let count = c.saturating_sub.ensures in
-    let told : c.last.result ≡ last_of c.self.inside.pending.last (length c.self.inside.pending.given) c.self.inside.pending.computed c.args.q c.args.leaf = c.last.ensures in
-    rw (← c.self.view_is) (none_unposted c.self.inside.plan c.know_lawful.ensures.lawful c.self.inside.window c.self.inside.state c.self.inside.pending (pending r) c.args.q c.args.round c.args.leaf (inside r) (within r) (most r)
+    let told : c.last.result ≡ last_of c.self.inside.pending.last (length c.self.inside.pending.given) c.self.inside.pending.computed c.args.q c.args.leaf =
+    c.last.ensures in
+    rw (← c.self.view_is) (none_unposted c.self.inside.plan c.know_lawful.ensures.lawful c.self.inside.window c.self.inside.state c.self.inside.pending
+    (pending r) c.args.q c.args.round c.args.leaf (inside r) (within r) (most r)
     (λ i next past low at is.
-    let early = row_is_early c.self.inside.plan c.know_lawful.ensures.lawful c.self.inside.window c.self.inside.state c.self.inside.pending (pending r) c.args.q c.args.round c.args.leaf (inside r) (within r) (most r) i next low at is in
+    let early = row_is_early c.self.inside.plan c.know_lawful.ensures.lawful c.self.inside.window c.self.inside.state c.self.inside.pending (pending r)
+    c.args.q c.args.round c.args.leaf (inside r) (within r) (most r) i next low at is in
     c.has.ensures.none no i next (omega (arith, past, posted, least)) (omega (arith, low, least, last, count, told, early)) at is))

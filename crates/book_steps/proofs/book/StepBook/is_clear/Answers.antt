@@ -18,19 +18,23 @@ module _ (c : After-know_lawful) where
   next = rw (← c.self.view_is) at c.requires.next
 
   named : (task : TaskId) → c.args.next.now.row.leaf ≡ Task task → task.0 < length c.self.inside.plan.set.tasks
-  named task is = names_task c.self.inside.plan c.know_lawful.ensures.lawful c.args.p (posted_at c.self.inside.state c.args.p) task.0 c.args.next.now.row next.row (is_task c.args.next.now.row.leaf task is)
+  named task is = names_task c.self.inside.plan c.know_lawful.ensures.lawful c.args.p (posted_at c.self.inside.state c.args.p) task.0 c.args.next.now.row
+      next.row (is_task c.args.next.now.row.leaf task is)
 
   -- its task has the ticks of its earlier rows
   by_ticks : (task : TaskId) → c.args.next.now.row.leaf ≡ Task task → slice_index c.self.inside.totals.items task.0 ≡ c.args.next.now.before
       → EarlierPosted (plan_rows c.self.inside.plan) c.self.inside.state.lanes c.args.p (posted_at c.self.inside.state c.args.p) c.args.next.now.row.leaf
-  by_ticks task is same = earlier_by_ticks (plan_rows c.self.inside.plan) c.self.inside.window c.self.inside.state (plan_table c.self.inside.plan c.know_lawful.ensures.lawful) c.self.invariant.led.1.reached c.args.p c.args.next.now.row task next.row is
+  by_ticks task is same = earlier_by_ticks (plan_rows c.self.inside.plan) c.self.inside.window c.self.inside.state (plan_table c.self.inside.plan
+      c.know_lawful.ensures.lawful) c.self.invariant.led.1.reached c.args.p c.args.next.now.row task next.row is
       (sym (c.self.invariant.totals.each task.0 (named task is)) ∙ same ∙ next.before task is)
 
   -- it has the least posted count
-  by_least : posted_at c.args.self.now.state c.args.p ≡ least_posted c.args.self.now.state → EarlierPosted (plan_rows c.args.self.now.plan) c.args.self.now.state.lanes c.args.p (posted_at c.args.self.now.state c.args.p) c.args.next.now.row.leaf
+  by_least : posted_at c.args.self.now.state c.args.p ≡ least_posted c.args.self.now.state → EarlierPosted (plan_rows c.args.self.now.plan)
+      c.args.self.now.state.lanes c.args.p (posted_at c.args.self.now.state c.args.p) c.args.next.now.row.leaf
   by_least same =
       let lanes : length c.args.self.now.state.lanes ≡ length (plan_rows c.args.self.now.plan) = rw (← c.self.view_is) c.self.invariant.led.1.reached.lanes in
-      earlier_at_least (plan_rows c.args.self.now.plan) c.args.self.now.state c.args.p (posted_at c.args.self.now.state c.args.p) c.args.next.now.row.leaf lanes (omega (arith, same))
+      earlier_at_least (plan_rows c.args.self.now.plan) c.args.self.now.state c.args.p (posted_at c.args.self.now.state c.args.p) c.args.next.now.row.leaf
+      lanes (omega (arith, same))
 
 pub is_least-requires : goal.is_least-requires
 is_least-requires c = c.requires.lane

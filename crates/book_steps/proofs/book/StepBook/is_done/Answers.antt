@@ -31,7 +31,8 @@ returns-then-posted-computed-clause-done c = λ on. rw (← c.self.view_is) (
 pub returns-then-posted-computed-clause-left : goal.returns-then-posted-computed-clause-left
 returns-then-posted-computed-clause-left c = λ off. rw (← c.self.view_is) (
     let r = (goal.at.returns-then-posted-computed-clause-left c).After-know_lawful in
-    let left = some r (λ e. let on : true ≡ false = sym (eq-eqb c.tick.result c.rounds_end.result (c.tick.ensures ∙ e ∙ sym c.rounds_end.ensures.value)) ∙ off in absurd (cc)) in
+    let left = some r (λ e. let on : true ≡ false = sym (eq-eqb c.tick.result c.rounds_end.result (c.tick.ensures ∙ e ∙ sym c.rounds_end.ensures.value))
+    ∙ off in absurd (cc)) in
     let posted = c.posted.ensures in
     let computed = c.computed.ensures in
     let same = c.if-posted-computed.true in

@@ -21,5 +21,6 @@ returns c =
       first = first_rounds plan lawful (all_computed plan c.self.inside.pending) kept.rounds;
       in_window = kept.in_window;
       totals = c.self.invariant.totals;
-      faults = subst (λ n. AreFaults state n c.self.inside.faults.items) (sym (computed_is plan lawful window state c.self.inside.pending pending)) c.self.invariant.faults;
+      faults = subst (λ n. AreFaults state n c.self.inside.faults.items) (sym (computed_is plan lawful window state c.self.inside.pending pending))
+          c.self.invariant.faults;
     })

@@ -28,19 +28,22 @@ returns-then-has_unposted-clause-some c = record {
 
 pub returns-clause-none : goal.returns-clause-none
 returns-clause-none c =
-    let lanes : length (plan_rows c.args.self.now.plan) ≡ length c.args.self.now.state.lanes = rw (← c.self.view_is) (sym c.self.invariant.led.1.reached.lanes) in
+    let lanes : length (plan_rows c.args.self.now.plan) ≡ length c.args.self.now.state.lanes = rw (← c.self.view_is)
+    (sym c.self.invariant.led.1.reached.lanes) in
     let all = c.processors-q-end.ensures.lanes in
     let end = c.loop-q-test.false in
-    λ q other j r below at is. c.loop-q.invariant q (let low = lane_within (plan_rows c.args.self.now.plan) q j r at in omega (arith, low, lanes, all, end)) other j r below at is
+    λ q other j r below at is. c.loop-q.invariant q (let low = lane_within (plan_rows c.args.self.now.plan) q j r at in omega (arith, low, lanes, all, end))
+    other j r below at is
 
 below : (u q : ℕ) → u < q + 1 → u ≢ q → u < q
 below u q low apart = omega (arith, low, apart)
 
 pub loop-q-preserved : goal.loop-q-preserved
 loop-q-preserved c = λ u low other. elim (cases_eq u c.loop-q.q) [
-  | inl same ↦ subst (λ (q : ℕ). PostedBefore (plan_rows c.args.self.now.plan) c.args.self.now.state.lanes q c.args.round c.args.leaf) (sym same) (elim c.else-q-p.branch [
-    | else-q-p-via-then-q-p+else-has_unposted w ↦ w.has_unposted.ensures.none w.if-has_unposted.false
-    | else-q-p-via-else-q-p w ↦ absurd (other (same ∙ w.if-q-p.false))
-  ])
+  | inl same ↦ subst (λ (q : ℕ). PostedBefore (plan_rows c.args.self.now.plan) c.args.self.now.state.lanes q c.args.round c.args.leaf) (sym same)
+      (elim c.else-q-p.branch [
+        | else-q-p-via-then-q-p+else-has_unposted w ↦ w.has_unposted.ensures.none w.if-has_unposted.false
+        | else-q-p-via-else-q-p w ↦ absurd (other (same ∙ w.if-q-p.false))
+      ])
   | inr apart ↦ c.loop-q.invariant u (below u c.loop-q.q low apart) other
 ]

@@ -45,12 +45,14 @@ row-requires c =
     let r = (goal.at.row-requires c).After-know_lawful in
     let posted : c.posted.result ≡ posted_at c.self.inside.state c.args.p = c.posted.ensures in
     let least : c.least.result ≡ least_posted c.self.inside.state = c.least.ensures in
-    rw (posted, least) (next_held c.self.inside.plan c.know_lawful.ensures.lawful c.self.inside.window c.self.inside.state c.self.inside.pending (pending r) c.args.p (inside r) (below r) (within r))
+    rw (posted, least) (next_held c.self.inside.plan c.know_lawful.ensures.lawful c.self.inside.window c.self.inside.state c.self.inside.pending (pending r)
+    c.args.p (inside r) (below r) (within r))
 
 pub returns : goal.returns
 returns c =
     let r = (goal.at.returns c).After-know_lawful in
     let posted : c.posted.result ≡ posted_at c.self.inside.state c.args.p = c.posted.ensures in
     let least : c.least.result ≡ least_posted c.self.inside.state = c.least.ensures in
-    rw (← c.self.view_is) (next_is c.self.inside.plan c.know_lawful.ensures.lawful c.self.inside.window c.self.inside.state c.self.inside.pending (pending r) c.args.p (inside r) (below r) (within r) c.row.result.now
+    rw (← c.self.view_is) (next_is c.self.inside.plan c.know_lawful.ensures.lawful c.self.inside.window c.self.inside.state c.self.inside.pending
+    (pending r) c.args.p (inside r) (below r) (within r) c.row.result.now
     (rw (posted, least) at c.row.ensures))

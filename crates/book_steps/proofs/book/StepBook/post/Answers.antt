@@ -61,7 +61,8 @@ add_ticks-requires-clause-task c task is =
     let r = (goal.at.add_ticks-requires-clause-task c).After-know_lawful in
     let row = c.next_row.result.now.row in
     let there = at r c.next_row.result.now c.next_row.ensures in
-    let named = names_task c.self.inside.plan c.know_lawful.ensures.lawful c.args.p (posted_at c.self.inside.state c.args.p) task.0 row there (is_task row.leaf task is) in
+    let named = names_task c.self.inside.plan c.know_lawful.ensures.lawful c.args.p (posted_at c.self.inside.state c.args.p) task.0 row there
+    (is_task row.leaf task is) in
     let many = c.self.invariant.totals.many in
     omega (arith, named, many)
 
@@ -82,19 +83,22 @@ add_ticks-requires-clause-fits c task is =
     let lawful = c.know_lawful.ensures.lawful in
     let named = names_task plan lawful c.args.p (posted_at c.self.inside.state c.args.p) task.0 row there (is_task row.leaf task is) in
     let so_far = c.self.invariant.totals.each task.0 named in
-    let fits = ticks_of-fits (plan_rows plan) c.self.inside.window c.self.inside.state (plan_table plan lawful) c.self.invariant.led.1.reached task.0 c.args.p row (out r, there) (is_task row.leaf task is) in
+    let fits = ticks_of-fits (plan_rows plan) c.self.inside.window c.self.inside.state (plan_table plan lawful) c.self.invariant.led.1.reached task.0
+    c.args.p row (out r, there) (is_task row.leaf task is) in
     omega (arith, so_far, fits)
 
 pub post-requires : goal.post-requires
 post-requires c = out (goal.at.post-requires c).After-know_lawful
 
 -- what a post keeps beside the pending rows
-module _ (c : After-know_lawful) (next : PendingRow) (is : IsPending (plan_rows c.args.self.now.plan) c.args.p (posted_at c.args.self.now.state c.args.p) next) where
+module _ (c : After-know_lawful) (next : PendingRow) (is : IsPending (plan_rows c.args.self.now.plan) c.args.p (posted_at c.args.self.now.state c.args.p)
+    next) where
   abbrev posted_state : State
   posted_state = after c.self.inside.state (Post (processor c.args.p))
 
   -- with these rows pending it is a book's
-  kept : (pending : PendingContents) → pending.computed ≡ c.self.inside.pending.computed → PendingKept c.self.inside.plan c.self.inside.window posted_state pending
+  kept : (pending : PendingContents) → pending.computed ≡ c.self.inside.pending.computed → PendingKept c.self.inside.plan c.self.inside.window posted_state
+      pending
       → BookKept c.self.inside.plan c.self.inside.window posted_state pending
       (with_ticks c.self.inside.totals.items next.row.leaf (next.row.end - next.row.start)) c.self.inside.faults.items
   kept pending same rows =
@@ -109,7 +113,8 @@ module _ (c : After-know_lawful) (next : PendingRow) (is : IsPending (plan_rows 
         led = IsLed-next plan c.know_lawful.ensures.lawful c.self.inside.window s c.self.invariant.led (Post (processor q)) (out c);
         totals = AreTotals-post plan s c.self.inside.totals.items q next.row (within c) (at c next is) c.self.invariant.totals;
         faults = subst (λ n. AreFaults posted_state n c.self.inside.faults.items) (sym same)
-            (AreFaults-out s c.self.inside.pending.computed q (record { posted = posted_at s q + 1; out = false }) c.self.inside.faults.items (out c) (within c) c.self.invariant.faults);
+            (AreFaults-out s c.self.inside.pending.computed q (record { posted = posted_at s q + 1; out = false }) c.self.inside.faults.items (out c)
+            (within c) c.self.invariant.faults);
       }
 
 pub invariant_of-self : goal.invariant_of-self
@@ -122,7 +127,8 @@ invariant_of-self c =
     let now : c.least.result ≡ least_posted (posted_state r c.next_row.result.now c.next_row.ensures) = c.least.ensures ∙ ap least_posted c.post.ensures in
     let moved = c.if-least.true in
     rw (c.post.ensures, c.add_ticks.ensures, c.let_go.ensures) (kept r c.next_row.result.now c.next_row.ensures _ refl
-    (PendingKept-go c.self.inside.plan c.know_lawful.ensures.lawful c.self.inside.window s q lane s.halted c.self.inside.pending (pending r) (within r) (below r) refl refl (omega (arith, before, now, moved))))
+    (PendingKept-go c.self.inside.plan c.know_lawful.ensures.lawful c.self.inside.window s q lane s.halted c.self.inside.pending (pending r) (within r)
+    (below r) refl refl (omega (arith, before, now, moved))))
 
 pub invariant_of-self-else-least : goal.invariant_of-self-else-least
 invariant_of-self-else-least c =
@@ -134,4 +140,5 @@ invariant_of-self-else-least c =
     let now : c.least.result ≡ least_posted (posted_state r c.next_row.result.now c.next_row.ensures) = c.least.ensures ∙ ap least_posted c.post.ensures in
     let stays = c.if-least.false in
     rw (c.post.ensures, c.add_ticks.ensures) (kept r c.next_row.result.now c.next_row.ensures _ refl
-    (PendingKept-stay c.self.inside.plan c.know_lawful.ensures.lawful c.self.inside.window s q lane s.halted c.self.inside.pending (pending r) (within r) (below r) refl refl (omega (arith, before, now, stays))))
+    (PendingKept-stay c.self.inside.plan c.know_lawful.ensures.lawful c.self.inside.window s q lane s.halted c.self.inside.pending (pending r) (within r)
+    (below r) refl refl (omega (arith, before, now, stays))))

@@ -19,7 +19,8 @@ waits_for-requires-clause-held c in_window =
     let new : BookHeld = c.compute_for.new.self in
     let same = c.compute_for.ensures.book in
     subst (λ n. n < rounds_in new.table.lanes) (sym (ap (λ (b : BookHeld). posted_at b.state c.args.p) same))
-    (c.compute_for.ensures.held c.if-not-compute_for.false (subst (λ (b : BookHeld). posted_at b.state c.args.p < least_posted b.state + b.window) same in_window))
+    (c.compute_for.ensures.held c.if-not-compute_for.false (subst (λ (b : BookHeld). posted_at b.state c.args.p < least_posted b.state + b.window) same
+    in_window))
 
 pub hand_out-row-requires-clause-free : goal.hand_out-row-requires-clause-free
 hand_out-row-requires-clause-free c = ap (λ (b : BookHeld). (lane_at b.state.lanes c.args.p).out) c.compute_for.ensures.book ∙ c.requires.free
@@ -32,10 +33,12 @@ hand_out-row-requires-clause-held c =
     let new : BookHeld = c.compute_for.new.self in
     let same = c.compute_for.ensures.book in
     subst (λ n. n < rounds_in new.table.lanes) (sym (ap (λ (b : BookHeld). posted_at b.state c.args.p) same))
-    (c.compute_for.ensures.held c.if-not-compute_for.false (subst (λ (b : BookHeld). posted_at b.state c.args.p < least_posted b.state + b.window) same c.in_default.ensures.none.in_window))
+    (c.compute_for.ensures.held c.if-not-compute_for.false (subst (λ (b : BookHeld). posted_at b.state c.args.p < least_posted b.state + b.window) same
+    c.in_default.ensures.none.in_window))
 
 pub hand_out-row-requires-clause-running : goal.hand_out-row-requires-clause-running
-hand_out-row-requires-clause-running c = ap (λ (b : BookHeld). b.state.halted) c.compute_for.ensures.book ∙ not_halted c.args.self.now.state.halted c.halted.result c.halted.ensures.1 c.if-halted.false
+hand_out-row-requires-clause-running c = ap (λ (b : BookHeld). b.state.halted) c.compute_for.ensures.book ∙ not_halted c.args.self.now.state.halted
+    c.halted.result c.halted.ensures.1 c.if-halted.false
 
 -- the computed round changes nothing that a look at the lane tells
 pub returns-in-Some : goal.returns-in-Some
@@ -45,7 +48,8 @@ returns-in-Some c =
     let p = c.args.p in
     let lane = c.in-Some.lane in
     let same : new ≡ record old { table = new.table } = c.compute_for.ensures.book in
-    let reason : WaitsFor (plan_rows old.plan) old.window old.state p lane = subst (λ (b : BookHeld). WaitsFor (plan_rows b.plan) b.window b.state p lane) same c.in-Some.ensures.some in
+    let reason : WaitsFor (plan_rows old.plan) old.window old.state p lane = subst (λ (b : BookHeld). WaitsFor (plan_rows b.plan) b.window b.state p lane)
+    same c.in-Some.ensures.some in
     record {
       running = not_halted old.state.halted c.halted.result c.halted.ensures.1 c.if-halted.false;
       left = c.is_done.ensures.left c.if-is_done.false;
@@ -69,7 +73,12 @@ pub returns-then-halted : goal.returns-then-halted
 returns-then-halted c = (c.halted.ensures.0 c.if-halted.true, refl)
 
 pub returns-then-is_done : goal.returns-then-is_done
-returns-then-is_done c = (not_halted c.args.self.now.state.halted c.halted.result c.halted.ensures.1 c.if-halted.false, c.is_done.ensures.done c.if-is_done.true, refl)
+returns-then-is_done c = (
+  not_halted c.args.self.now.state.halted c.halted.result c.halted.ensures.1 c.if-halted.false,
+  c.is_done.ensures.done
+      c.if-is_done.true,
+  refl,
+)
 
 pub compute_for-requires-clause-left : goal.compute_for-requires-clause-left
 compute_for-requires-clause-left c = c.is_done.ensures.left c.if-is_done.false

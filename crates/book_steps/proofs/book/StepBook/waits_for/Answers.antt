@@ -31,19 +31,24 @@ module _ (c : After-know_lawful) where
   low = least_le c.self.inside.state.lanes c.args.p within
 
   -- in the window the next row is computed
-  below : posted_at c.self.inside.state c.args.p < least_posted c.self.inside.state + c.self.inside.window → posted_at c.self.inside.state c.args.p < c.self.inside.pending.computed
+  below : posted_at c.self.inside.state c.args.p < least_posted c.self.inside.state + c.self.inside.window → posted_at c.self.inside.state
+      c.args.p < c.self.inside.pending.computed
   below near =
       let held = (rw (← c.self.view_is) at c.requires.held) near in
       let is = computed_is c.self.inside.plan c.know_lawful.ensures.lawful c.self.inside.window c.self.inside.state c.self.inside.pending pending in
       omega (arith, held, is)
 
   -- the task that its row names is one of the plan's
-  named : (next : PendingRow) → IsPending (plan_rows c.self.inside.plan) c.args.p (posted_at c.self.inside.state c.args.p) next → (task : TaskId) → next.row.leaf ≡ Task task → task.0 < length c.self.inside.plan.set.tasks
-  named next pends task is = names_task c.self.inside.plan c.know_lawful.ensures.lawful c.args.p (posted_at c.self.inside.state c.args.p) task.0 next.row pends.row (is_task next.row.leaf task is)
+  named : (next : PendingRow) → IsPending (plan_rows c.self.inside.plan) c.args.p (posted_at c.self.inside.state c.args.p) next → (task : TaskId) →
+      next.row.leaf ≡ Task task → task.0 < length c.self.inside.plan.set.tasks
+  named next pends task is = names_task c.self.inside.plan c.know_lawful.ensures.lawful c.args.p (posted_at c.self.inside.state c.args.p) task.0 next.row
+      pends.row (is_task next.row.leaf task is)
 
   -- the lane that is found is the one waited for
-  waits_in : (next : PendingRow) → posted_at c.self.inside.state c.args.p < least_posted c.self.inside.state + c.self.inside.window → IsPending (plan_rows c.args.self.now.plan) c.args.p (posted_at c.args.self.now.state c.args.p) next
-      → (round : ℕ) → round ≡ posted_at c.self.inside.state c.args.p → (found : Option ℕ) → IfSome found (λ q. IsWaitedFor (plan_rows c.args.self.now.plan) c.args.self.now.state.lanes c.args.p round next.row.leaf q)
+  waits_in : (next : PendingRow) → posted_at c.self.inside.state c.args.p < least_posted c.self.inside.state + c.self.inside.window →
+      IsPending (plan_rows c.args.self.now.plan) c.args.p (posted_at c.args.self.now.state c.args.p) next
+      → (round : ℕ) → round ≡ posted_at c.self.inside.state c.args.p → (found : Option ℕ) → IfSome found (λ q. IsWaitedFor (plan_rows c.args.self.now.plan)
+      c.args.self.now.state.lanes c.args.p round next.row.leaf q)
       → IfSome found (λ q. WaitsFor (plan_rows c.args.self.now.plan) c.args.self.now.window c.args.self.now.state c.args.p q)
   waits_in next close is round posted found waited =
       let near : posted_at c.args.self.now.state c.args.p < least_posted c.args.self.now.state + c.args.self.now.window = rw (← c.self.view_is) close in
@@ -95,7 +100,8 @@ returns-then-round-least-clause-behind c =
     let least = c.least.ensures in
     let window = c.from.ensures in
     let far = c.if-round-least.true in
-    rw (← c.self.view_is) (waited_is_behind (plan_rows c.self.inside.plan) c.self.inside.window c.self.inside.state c.args.p c.lowest.result c.self.invariant.some_window (inl (omega (arith, most, posted, least, window, far), c.lowest.ensures)))
+    rw (← c.self.view_is) (waited_is_behind (plan_rows c.self.inside.plan) c.self.inside.window c.self.inside.state c.args.p c.lowest.result
+    c.self.invariant.some_window (inl (omega (arith, most, posted, least, window, far), c.lowest.ensures)))
 
 pub next_row-next-requires-clause-lane : goal.next_row-next-requires-clause-lane
 next_row-next-requires-clause-lane c = c.requires.lane
@@ -107,7 +113,14 @@ next_row-next-requires-clause-held c =
     let least = c.least.ensures in
     let window = c.from.ensures in
     let near = c.if-round-least.false in
-    let close : posted_at c.self.inside.state c.args.p < least_posted c.self.inside.state + c.self.inside.window = omega (arith, most, posted, least, window, near) in
+    let close : posted_at c.self.inside.state c.args.p < least_posted c.self.inside.state + c.self.inside.window = omega (
+      arith,
+      most,
+      posted,
+      least,
+      window,
+      near,
+    ) in
     c.requires.held (rw (← c.self.view_is) close)
 
 pub is_clear-requires-clause-lane : goal.is_clear-requires-clause-lane
@@ -139,7 +152,14 @@ returns-then-is_clear-clause-none c =
     let least = c.least.ensures in
     let window = c.from.ensures in
     let near = c.if-round-least.false in
-    let close : posted_at c.self.inside.state c.args.p < least_posted c.self.inside.state + c.self.inside.window = omega (arith, most, posted, least, window, near) in
+    let close : posted_at c.self.inside.state c.args.p < least_posted c.self.inside.state + c.self.inside.window = omega (
+      arith,
+      most,
+      posted,
+      least,
+      window,
+      near,
+    ) in
     record {
       in_window = rw (← c.self.view_is) close;
       next = (c.next_row-next.result.now.row, c.next_row-next.ensures.row, c.is_clear.ensures c.if-is_clear.true);
@@ -153,7 +173,14 @@ returns-else-is_clear-clause-some c =
     let least = c.least.ensures in
     let window = c.from.ensures in
     let near = c.if-round-least.false in
-    let close : posted_at c.self.inside.state c.args.p < least_posted c.self.inside.state + c.self.inside.window = omega (arith, most, posted, least, window, near) in
+    let close : posted_at c.self.inside.state c.args.p < least_posted c.self.inside.state + c.self.inside.window = omega (
+      arith,
+      most,
+      posted,
+      least,
+      window,
+      near,
+    ) in
     waits_in r c.next_row-next.result.now close c.next_row-next.ensures c.posted-round.result posted c.lowest_with.result c.lowest_with.ensures.some
 
 pub returns-else-is_clear-clause-behind : goal.returns-else-is_clear-clause-behind
@@ -164,7 +191,14 @@ returns-else-is_clear-clause-behind c =
     let least = c.least.ensures in
     let window = c.from.ensures in
     let near = c.if-round-least.false in
-    let close : posted_at c.self.inside.state c.args.p < least_posted c.self.inside.state + c.self.inside.window = omega (arith, most, posted, least, window, near) in
+    let close : posted_at c.self.inside.state c.args.p < least_posted c.self.inside.state + c.self.inside.window = omega (
+      arith,
+      most,
+      posted,
+      least,
+      window,
+      near,
+    ) in
     let some : 1 ≤ c.args.self.now.window = rw (← c.self.view_is) c.self.invariant.some_window in
     IfSome-by c.lowest_with.result _ _ (λ q. waited_is_behind (plan_rows c.args.self.now.plan) c.args.self.now.window c.args.self.now.state c.args.p q some)
     (waits_in r c.next_row-next.result.now close c.next_row-next.ensures c.posted-round.result posted c.lowest_with.result c.lowest_with.ensures.some)
@@ -177,7 +211,14 @@ returns-else-is_clear-clause-none c =
     let least = c.least.ensures in
     let window = c.from.ensures in
     let near = c.if-round-least.false in
-    let close : posted_at c.self.inside.state c.args.p < least_posted c.self.inside.state + c.self.inside.window = omega (arith, most, posted, least, window, near) in
+    let close : posted_at c.self.inside.state c.args.p < least_posted c.self.inside.state + c.self.inside.window = omega (
+      arith,
+      most,
+      posted,
+      least,
+      window,
+      near,
+    ) in
     let here : c.posted-round.result ≡ posted_at c.args.self.now.state c.args.p = rw (← c.self.view_is) posted in
     IfNone-by c.lowest_with.result _ _ (λ earlier. record {
       in_window = rw (← c.self.view_is) close;

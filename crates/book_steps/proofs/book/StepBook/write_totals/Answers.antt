@@ -27,7 +27,8 @@ pub bounds-totals-t : goal.bounds-totals-t
 bounds-totals-t c =
     let room = rw (← c.self.view_is) at c.requires.room in
     let all = c.len-t-end.ensures ∙ c.self.inside.totals.ok.0 in
-    within c.loop-t.t c.len-t-end.result (length c.self.inside.totals.items) (length c.args.totals.now) (length c.loop-t.totals) c.loop-t-test.true all room c.loop-t.auto.totals
+    within c.loop-t.t c.len-t-end.result (length c.self.inside.totals.items) (length c.args.totals.now) (length c.loop-t.totals) c.loop-t-test.true all room
+    c.loop-t.auto.totals
 
 pub loop-t-preserved : goal.loop-t-preserved
 loop-t-preserved c =
@@ -35,11 +36,13 @@ loop-t-preserved c =
     let t = c.loop-t.t in
     let room = rw (← c.self.view_is) at c.requires.room in
     let all = c.len-t-end.ensures ∙ c.self.inside.totals.ok.0 in
-    let inside = within t c.len-t-end.result (length items) (length c.args.totals.now) (length c.loop-t.totals) c.loop-t-test.true all room c.loop-t.auto.totals in
+    let inside = within t c.len-t-end.result (length items) (length c.args.totals.now) (length c.loop-t.totals) c.loop-t-test.true all room
+    c.loop-t.auto.totals in
     let read = get_or_read_under items t c.len-t-end.result c.index.result.now 0 c.index.ensures c.loop-t-test.true all in
     λ k none low. elim (cases_eq k t) [
       | inl same ↦ rw (← c.self.view_is) (ap (λ i. slice_index items i) same ∙ sym read ∙ c.halves_of.ensures
-          ∙ ap halves_value (sym (get_or-set_same c.loop-t.totals t c.halves_of.result none inside) ∙ ap (λ i. get_or (set c.loop-t.totals t c.halves_of.result) i none) (sym same)))
+          ∙ ap halves_value (sym (get_or-set_same c.loop-t.totals t c.halves_of.result none inside)
+          ∙ ap (λ i. get_or (set c.loop-t.totals t c.halves_of.result) i none) (sym same)))
       | inr apart ↦ c.loop-t.invariant k none (below k t low apart) ∙ ap halves_value (sym (get_or-set_other c.loop-t.totals t k c.halves_of.result none apart))
     ]
 

@@ -82,7 +82,8 @@ returns-clause-held c =
     let r = (goal.at.returns-clause-held c).After-compute in
     let s = c.self.inside in
     rw (← c.self.view_is) (c.push_each.ensures
-    ∙ ap₂ (λ (gs : List ℕ) (rs : List Row). buffer (s.held.items ++ map (pending gs) rs) s.held.capacity) c.as_slice.ensures.value (c.as_slice-2.ensures.value ∙ are_written r))
+    ∙ ap₂ (λ (gs : List ℕ) (rs : List Row). buffer (s.held.items ++ map (pending gs) rs) s.held.capacity) c.as_slice.ensures.value
+    (c.as_slice-2.ensures.value ∙ are_written r))
 
 pub returns-clause-computed : goal.returns-clause-computed
 returns-clause-computed c = rw (← c.self.view_is) refl
@@ -91,7 +92,8 @@ pub returns-clause-given : goal.returns-clause-given
 returns-clause-given c =
     let r = (goal.at.returns-clause-given c).After-compute in
     rw (← c.self.view_is)
-    (subst (λ (rs : List Row). AreCounted c.self.inside.given.items rs c.count_each.new.given.items) (c.as_slice-4.ensures.value ∙ are_written r) c.count_each.ensures)
+    (subst (λ (rs : List Row). AreCounted c.self.inside.given.items rs c.count_each.new.given.items) (c.as_slice-4.ensures.value ∙ are_written r)
+    c.count_each.ensures)
 
 pub returns-clause-last : goal.returns-clause-last
 returns-clause-last c =
@@ -100,4 +102,5 @@ returns-clause-last c =
     let many = c.len.ensures ∙ sym c.as_slice.ensures.len ∙ ap (λ (ts : List ℕ). length ts) c.as_slice.ensures.value in
     rw (← c.self.view_is)
     (subst (λ n. AreNoted n (s.computed + 1) s.last.items (round_rows r) c.note_each.new.last.items) many
-    (subst (λ (rs : List Row). AreNoted c.len.result (s.computed + 1) s.last.items rs c.note_each.new.last.items) (c.as_slice-3.ensures.value ∙ are_written r) c.note_each.ensures))
+    (subst (λ (rs : List Row). AreNoted c.len.result (s.computed + 1) s.last.items rs c.note_each.new.last.items) (c.as_slice-3.ensures.value
+    ∙ are_written r) c.note_each.ensures))

@@ -19,7 +19,8 @@ keep_one-requires-clause-place c =
     let s = c.self.inside in
     let width = rw (← c.self.view_is) at c.requires.width in
     let places = rw (← c.self.view_is) at c.requires.places in
-    let one : 1 ≡ p.tree.processors = ap (λ (rs : List Row). length rs) (sym c.in-Some.ensures.row) ∙ length-round p.set.tasks p.tree s.source.tick c.again.new.self.tick in
+    let one : 1 ≡ p.tree.processors = ap (λ (rs : List Row). length rs) (sym c.in-Some.ensures.row) ∙ length-round p.set.tasks p.tree s.source.tick
+    c.again.new.self.tick in
     omega (arith, width, places, one)
 
 pub keep_one-requires-clause-noted : goal.keep_one-requires-clause-noted
@@ -29,7 +30,8 @@ keep_one-requires-clause-noted c =
     let width = rw (← c.self.view_is) at c.requires.width in
     let each = rw (← c.self.view_is) at c.requires.each in
     let fits = rw (← c.self.view_is) at c.requires.fits in
-    let one : 1 ≡ p.tree.processors = ap (λ (rs : List Row). length rs) (sym c.in-Some.ensures.row) ∙ length-round p.set.tasks p.tree s.source.tick c.again.new.self.tick in
+    let one : 1 ≡ p.tree.processors = ap (λ (rs : List Row). length rs) (sym c.in-Some.ensures.row) ∙ length-round p.set.tasks p.tree s.source.tick
+    c.again.new.self.tick in
     let can = subst (λ (rs : List Row). CanCount s.given.items rs) c.in-Some.ensures.row (fits c.again.new.self.tick c.in-Some.ensures.round) in
     can_note s.given.items (c.in-Some.row ∷ []) (length s.last.items) (vec_len s.rows) can (one ∙ sym width) each
 
@@ -49,13 +51,16 @@ keep_one-requires-clause-fits c =
     subst (λ (rs : List Row). CanCount s.given.items rs) c.in-Some.ensures.row (fits c.again.new.self.tick c.in-Some.ensures.round)
 
 pub compute_each-requires-clause-belongs : goal.compute_each-requires-clause-belongs
-compute_each-requires-clause-belongs c = subst (λ (x : SourceContents). GoesOnWithPlan c.args.plan.now x) (sym c.in-None.ensures.none) (rw (← c.self.view_is) at c.requires.belongs)
+compute_each-requires-clause-belongs c = subst (λ (x : SourceContents). GoesOnWithPlan c.args.plan.now x) (sym c.in-None.ensures.none)
+    (rw (← c.self.view_is) at c.requires.belongs)
 
 pub compute_each-requires-clause-computes : goal.compute_each-requires-clause-computes
-compute_each-requires-clause-computes c = subst (λ (x : SourceContents). (again : Repeating) → x.stage ≢ Repeats again) (sym c.in-None.ensures.none) c.in-None.ensures.computes
+compute_each-requires-clause-computes c = subst (λ (x : SourceContents). (again : Repeating) → x.stage ≢ Repeats again) (sym c.in-None.ensures.none)
+    c.in-None.ensures.computes
 
 pub compute_each-requires-clause-early : goal.compute_each-requires-clause-early
-compute_each-requires-clause-early c = subst (λ (x : SourceContents). x.tick < stop_of c.args.plan.now) (sym c.in-None.ensures.none) (rw (← c.self.view_is) at c.requires.early)
+compute_each-requires-clause-early c = subst (λ (x : SourceContents). x.tick < stop_of c.args.plan.now) (sym c.in-None.ensures.none) (rw (← c.self.view_is)
+    at c.requires.early)
 
 pub compute_each-requires-clause-width : goal.compute_each-requires-clause-width
 compute_each-requires-clause-width c = rw (← c.self.view_is) at c.requires.width
@@ -98,10 +103,12 @@ only_row c =
 pub returns-in-Some-clause-held : goal.returns-in-Some-clause-held
 returns-in-Some-clause-held c =
     let s = c.self.inside in
-    rw (← c.self.view_is) (c.keep_one.ensures.held ∙ ap (λ (rs : List Row). buffer (s.held.items ++ map (pending s.given.items) rs) s.held.capacity) (only_row c))
+    rw (← c.self.view_is) (c.keep_one.ensures.held ∙ ap (λ (rs : List Row). buffer (s.held.items ++ map (pending s.given.items) rs) s.held.capacity)
+    (only_row c))
 
 pub returns-in-Some-clause-given : goal.returns-in-Some-clause-given
-returns-in-Some-clause-given c = rw (← c.self.view_is) (subst (λ (rs : List Row). AreCounted c.self.inside.given.items rs c.keep_one.new.self.given) (only_row c) c.keep_one.ensures.given)
+returns-in-Some-clause-given c = rw (← c.self.view_is) (subst (λ (rs : List Row). AreCounted c.self.inside.given.items rs c.keep_one.new.self.given)
+    (only_row c) c.keep_one.ensures.given)
 
 pub returns-in-Some-clause-last : goal.returns-in-Some-clause-last
 returns-in-Some-clause-last c =
@@ -131,13 +138,16 @@ same_rows c = ap (λ (x : SourceContents). rows_of_round c.args.plan.now x.tick 
 pub returns-in-None-clause-held : goal.returns-in-None-clause-held
 returns-in-None-clause-held c =
     let s = c.self.inside in
-    rw (← c.self.view_is) (c.compute_each.ensures.held ∙ ap (λ (rs : List Row). buffer (s.held.items ++ map (pending s.given.items) rs) s.held.capacity) (same_rows c))
+    rw (← c.self.view_is) (c.compute_each.ensures.held ∙ ap (λ (rs : List Row). buffer (s.held.items ++ map (pending s.given.items) rs) s.held.capacity)
+    (same_rows c))
 
 pub returns-in-None-clause-given : goal.returns-in-None-clause-given
-returns-in-None-clause-given c = rw (← c.self.view_is) (subst (λ (rs : List Row). AreCounted c.self.inside.given.items rs c.compute_each.new.self.given) (same_rows c) c.compute_each.ensures.given)
+returns-in-None-clause-given c = rw (← c.self.view_is) (subst (λ (rs : List Row). AreCounted c.self.inside.given.items rs c.compute_each.new.self.given)
+    (same_rows c) c.compute_each.ensures.given)
 
 pub returns-in-None-clause-last : goal.returns-in-None-clause-last
 returns-in-None-clause-last c =
     let s = c.self.inside in
     rw (← c.self.view_is)
-    (subst (λ (rs : List Row). AreNoted (length s.given.items) (s.computed + 1) s.last.items rs c.compute_each.new.self.last) (same_rows c) c.compute_each.ensures.last)
+    (subst (λ (rs : List Row). AreNoted (length s.given.items) (s.computed + 1) s.last.items rs c.compute_each.new.self.last) (same_rows c)
+    c.compute_each.ensures.last)

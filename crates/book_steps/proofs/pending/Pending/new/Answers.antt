@@ -85,7 +85,8 @@ pub returns-clause-start : goal.returns-clause-start
 returns-clause-start c = c.in_ok-source.ensures.start
 
 pub returns-clause-width : goal.returns-clause-width
-returns-clause-width c = c.in_ok-rows.rows.ok.0 ∙ c.in_ok-rows.ensures ∙ wide c.args.plan.now c.tree.result.now c.processors-processors.result c.processors-processors.ensures.value c.tree.ensures.value
+returns-clause-width c = c.in_ok-rows.rows.ok.0 ∙ c.in_ok-rows.ensures ∙ wide c.args.plan.now c.tree.result.now c.processors-processors.result
+    c.processors-processors.ensures.value c.tree.ensures.value
 
 pub returns-clause-computed : goal.returns-clause-computed
 returns-clause-computed c = refl
@@ -93,4 +94,5 @@ returns-clause-computed c = refl
 pub returns-clause-held : goal.returns-clause-held
 returns-clause-held c =
     c.in_ok-held.ensures
-    ∙ ap (λ (m : ℕ). buffer {X = PendingRow} [] (c.args.window * m)) (wide c.args.plan.now c.tree.result.now c.processors-processors.result c.processors-processors.ensures.value c.tree.ensures.value)
+    ∙ ap (λ (m : ℕ). buffer {X = PendingRow} [] (c.args.window * m)) (wide c.args.plan.now c.tree.result.now c.processors-processors.result
+    c.processors-processors.ensures.value c.tree.ensures.value)

@@ -9,7 +9,8 @@ loop-row-init c = refl
 pub loop-row-preserved : goal.loop-row-preserved
 loop-row-preserved c =
     let old = c.self.inside.rows in
-    rw add-one (c.pop_front-first.ensures.items ∙ ap (λ (b : Buffer _). buffer (drop 1 b.items) b.capacity) c.loop-row.invariant ∙ ap (λ items. buffer items old.capacity) (drop_more c.loop-row._row old.items))
+    rw add-one (c.pop_front-first.ensures.items ∙ ap (λ (b : Buffer _). buffer (drop 1 b.items) b.capacity) c.loop-row.invariant
+    ∙ ap (λ items. buffer items old.capacity) (drop_more c.loop-row._row old.items))
 
 pub returns : goal.returns
 returns c =

@@ -29,7 +29,8 @@ keep-self-inside-requires-clause-round c =
     let s = c.self.inside in
     let source = rw (← c.self.view_is) at c.requires.source in
     let computes = rw (← c.self.view_is) at c.requires.computes in
-    subst (λ (n : ℕ). IsRoundUpTo p n c.advance.new.self.tick) (stage_stands p s.core.tick s.tick s.ends.items s.shown.items s.stage computes source.stage) c.advance.ensures.round
+    subst (λ (n : ℕ). IsRoundUpTo p n c.advance.new.self.tick) (stage_stands p s.core.tick s.tick s.ends.items s.shown.items s.stage computes source.stage)
+    c.advance.ensures.round
 
 pub keep-self-inside-requires-clause-rows : goal.keep-self-inside-requires-clause-rows
 keep-self-inside-requires-clause-rows c =
@@ -51,7 +52,8 @@ returns-clause-source c =
     let core = c.advance.new.self in
     record {
       core = c.advance.ensures.belongs;
-      stage = subst (λ (n : ℕ). IsStage c.args.plan.now core.tick n k.new.ends.items k.new.shown.items k.result) (sym c.now-self-inside.ensures.value) k.ensures;
+      stage = subst (λ (n : ℕ). IsStage c.args.plan.now core.tick n k.new.ends.items k.new.shown.items k.result) (sym c.now-self-inside.ensures.value)
+          k.ensures;
     }
 
 pub returns-clause-round : goal.returns-clause-round
@@ -62,7 +64,8 @@ returns-clause-round c =
     let computes = rw (← c.self.view_is) at c.requires.computes in
     rw (← c.self.view_is)
     (subst (λ (n : ℕ). IsRoundUpTo p s.tick n) (sym c.now-self-inside.ensures.value)
-    (subst (λ (n : ℕ). IsRoundUpTo p n c.advance.new.self.tick) (stage_stands p s.core.tick s.tick s.ends.items s.shown.items s.stage computes source.stage) c.advance.ensures.round))
+    (subst (λ (n : ℕ). IsRoundUpTo p n c.advance.new.self.tick) (stage_stands p s.core.tick s.tick s.ends.items s.shown.items s.stage computes source.stage)
+    c.advance.ensures.round))
 
 pub returns-clause-rows : goal.returns-clause-rows
 returns-clause-rows c =

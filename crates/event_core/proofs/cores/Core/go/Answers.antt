@@ -44,4 +44,5 @@ pub returns-clause-belongs : goal.returns-clause-belongs
 returns-clause-belongs c = c.run_round.ensures.core
 
 pub returns-clause-round : goal.returns-clause-round
-returns-clause-round c = subst (λ (k : CoreContents). IsRoundUpTo c.args.plan.now k.tick c.run_round.new.state.dues.tick) c.self.view_is c.run_round.ensures.round
+returns-clause-round c = subst (λ (k : CoreContents). IsRoundUpTo c.args.plan.now k.tick c.run_round.new.state.dues.tick) c.self.view_is
+    c.run_round.ensures.round

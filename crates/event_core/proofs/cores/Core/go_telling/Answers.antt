@@ -45,7 +45,8 @@ pub returns-clause-belongs : goal.returns-clause-belongs
 returns-clause-belongs c = c.run_round.ensures.core
 
 pub returns-clause-round : goal.returns-clause-round
-returns-clause-round c = subst (λ (k : CoreContents). IsRoundUpTo c.args.plan.now k.tick c.run_round.new.state.dues.tick) c.self.view_is c.run_round.ensures.round
+returns-clause-round c = subst (λ (k : CoreContents). IsRoundUpTo c.args.plan.now k.tick c.run_round.new.state.dues.tick) c.self.view_is
+    c.run_round.ensures.round
 
 pub tell_places-requires-clause-packs : goal.tell_places-requires-clause-packs
 tell_places-requires-clause-packs c = λ k l.
@@ -79,9 +80,12 @@ returns-clause-others c = λ q start none l no on_time before.
     let next = c.run_round.new.state in
     let old = subst (λ (k : CoreContents). IsCoreOf p k) (sym c.self.view_is) c.requires.belongs in
     let (runs, long, changed, placed) = c.run_round.ensures.placed in
-    let tells = subst (λ (xs : List ℕ). AreHeldTold next.places.onto xs c.tell_places.new.told (length xs) c.tell_places.result) c.seen.ensures.packs c.tell_places.ensures.told in
-    subst (λ (k : CoreContents). IsRoundUpTo p start k.tick → (get_or (rows_of_round p k.tick next.dues.tick) q none).leaf ≡ (get_or (rows_of_round p start k.tick) q none).leaf) c.self.view_is
-    (λ r. shows_same p c.know_lawful.ensures.lawful (contents s) (contents next) old c.run_round.ensures.core c.run_round.ensures.round runs long c.run_round.new.changes changed placed
+    let tells = subst (λ (xs : List ℕ). AreHeldTold next.places.onto xs c.tell_places.new.told (length xs) c.tell_places.result) c.seen.ensures.packs
+    c.tell_places.ensures.told in
+    subst (λ (k : CoreContents). IsRoundUpTo p start k.tick → (get_or (rows_of_round p k.tick next.dues.tick) q none).leaf ≡ (get_or (rows_of_round p start
+    k.tick) q none).leaf) c.self.view_is
+    (λ r. shows_same p c.know_lawful.ensures.lawful (contents s) (contents next) old c.run_round.ensures.core c.run_round.ensures.round runs long
+    c.run_round.new.changes changed placed
     c.know_noted.ensures c.run_round.ensures.seen c.tell_places.new.told c.tell_places.result tells q l no start none on_time r) before
 
 pub returns-clause-placed : goal.returns-clause-placed
@@ -91,7 +95,9 @@ returns-clause-placed c = λ q l no.
     let next = c.run_round.new.state in
     let old = subst (λ (k : CoreContents). IsCoreOf p k) (sym c.self.view_is) c.requires.belongs in
     let (runs, long, changed, placed) = c.run_round.ensures.placed in
-    let tells = subst (λ (xs : List ℕ). AreHeldTold next.places.onto xs c.tell_places.new.told (length xs) c.tell_places.result) c.seen.ensures.packs c.tell_places.ensures.told in
+    let tells = subst (λ (xs : List ℕ). AreHeldTold next.places.onto xs c.tell_places.new.told (length xs) c.tell_places.result) c.seen.ensures.packs
+    c.tell_places.ensures.told in
     subst (λ (k : CoreContents). get_or next.places.onto q None ≡ get_or k.places.onto q None) c.self.view_is
-    (stays p c.know_lawful.ensures.lawful (contents s) (contents next) old c.run_round.ensures.core c.run_round.ensures.round runs long c.run_round.new.changes changed placed
+    (stays p c.know_lawful.ensures.lawful (contents s) (contents next) old c.run_round.ensures.core c.run_round.ensures.round runs long
+    c.run_round.new.changes changed placed
     c.know_noted.ensures c.run_round.ensures.seen c.tell_places.new.told c.tell_places.result tells q l no)

@@ -21,4 +21,5 @@ pub returns-clause-full : goal.returns-clause-full
 returns-clause-full c = c.leaf_gone.ensures.full
 
 pub returns-clause-row : goal.returns-clause-row
-returns-clause-row c = λ none. subst (λ (k : CoreContents). get_or (rows_of_round c.args.plan.now c.args.start k.tick) c.args.q none ≡ record { processor = c.args.q; leaf = c.leaf_gone.result; start = c.args.start; end = k.tick }) c.self.view_is (c.leaf_gone.ensures.row none)
+returns-clause-row c = λ none. subst (λ (k : CoreContents). get_or (rows_of_round c.args.plan.now c.args.start k.tick) c.args.q none ≡ record
+    { processor = c.args.q; leaf = c.leaf_gone.result; start = c.args.start; end = k.tick }) c.self.view_is (c.leaf_gone.ensures.row none)

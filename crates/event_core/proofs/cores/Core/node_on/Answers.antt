@@ -23,9 +23,11 @@ pub returns-clause-within : goal.returns-clause-within
 returns-clause-within c = c.node_gone.ensures.within
 
 pub returns-clause-none : goal.returns-clause-none
-returns-clause-none c = λ none e. subst (λ (k : CoreContents). (get_or (rows_of_round c.args.plan.now c.args.start k.tick) c.args.q none).leaf ≡ Empty) c.self.view_is (c.node_gone.ensures.none none e)
+returns-clause-none c = λ none e. subst (λ (k : CoreContents). (get_or (rows_of_round c.args.plan.now c.args.start k.tick) c.args.q none).leaf ≡ Empty)
+    c.self.view_is (c.node_gone.ensures.none none e)
 
 pub returns-clause-some : goal.returns-clause-some
 returns-clause-some c = λ n none e.
     let p = c.args.plan.now in
-    subst (λ (k : CoreContents). (get_or (rows_of_round p c.args.start k.tick) c.args.q none).leaf ≡ shown p.set.tasks p.tree.scale c.args.start (leaf p.tree n.0)) c.self.view_is (c.node_gone.ensures.some n none e)
+    subst (λ (k : CoreContents). (get_or (rows_of_round p c.args.start k.tick) c.args.q none).leaf ≡ shown p.set.tasks p.tree.scale c.args.start
+    (leaf p.tree n.0)) c.self.view_is (c.node_gone.ensures.some n none e)

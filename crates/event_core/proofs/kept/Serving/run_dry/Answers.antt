@@ -6,11 +6,13 @@ use Rattle.event_core.proofs.kept.Serving.run_dry.Goals as goal
 
 pub run_dry-requires-clause-ready : goal.run_dry-requires-clause-ready
 run_dry-requires-clause-ready c =
-    ap (λ (xs : List (List ℕ)). length xs) (c.deref_mut.ensures.value ∙ ap (λ (s : ServingContents). s.ready) c.self.view_is) ∙ c.requires.long.ready ∙ ap (λ (t : Tree). length t.nodes) (sym c.tree.ensures.value)
+    ap (λ (xs : List (List ℕ)). length xs) (c.deref_mut.ensures.value ∙ ap (λ (s : ServingContents). s.ready) c.self.view_is) ∙ c.requires.long.ready
+    ∙ ap (λ (t : Tree). length t.nodes) (sym c.tree.ensures.value)
 
 pub run_dry-requires-clause-serves : goal.run_dry-requires-clause-serves
 run_dry-requires-clause-serves c =
-    ap (λ (xs : List (Option ℕ)). length xs) (c.deref.ensures.value ∙ ap (λ (s : ServingContents). s.serves) c.self.view_is) ∙ c.requires.long.serves ∙ ap (λ (t : Tree). length t.nodes) (sym c.tree.ensures.value)
+    ap (λ (xs : List (Option ℕ)). length xs) (c.deref.ensures.value ∙ ap (λ (s : ServingContents). s.serves) c.self.view_is) ∙ c.requires.long.serves
+    ∙ ap (λ (t : Tree). length t.nodes) (sym c.tree.ensures.value)
 
 pub run_dry-requires-clause-stale : goal.run_dry-requires-clause-stale
 run_dry-requires-clause-stale c =
@@ -30,7 +32,8 @@ returns-clause-serving c =
 pub returns-clause-long : goal.returns-clause-long
 returns-clause-long c = record {
   dues = c.requires.long.dues;
-  ready = back_long c.self.inside.ready _ _ c.deref_mut.ensures.value c.run_dry.auto.ready ∙ ap (λ (s : ServingContents). length s.ready) c.self.view_is ∙ c.requires.long.ready;
+  ready = back_long c.self.inside.ready _ _ c.deref_mut.ensures.value c.run_dry.auto.ready ∙ ap (λ (s : ServingContents). length s.ready) c.self.view_is
+      ∙ c.requires.long.ready;
   serves = ap (λ (s : ServingContents). length s.serves) c.self.view_is ∙ c.requires.long.serves;
   stale = c.run_dry.ensures.long ∙ ap (λ (s : ServingContents). length s.stale) c.self.view_is ∙ c.requires.long.stale;
   runs = ap (λ (s : ServingContents). length s.runs) c.self.view_is ∙ c.requires.long.runs;

@@ -30,7 +30,8 @@ is_due-requires-clause-in_order g c =
     let p = c.self.inside.plan in
     let rounds = c.in-Some.held.rounds in
     let kept : RowsKept p c.self.inside.window c.self.inside.state rounds = rw c.in-Some.is at c.self.invariant.rows.kept in
-    rw c.linked.ensures (in_order_first rounds.table.lanes (plan_rows p) (first_rounds p c.know_lawful.ensures.lawful rounds kept.rounds) c.self.inside.state c.self.invariant.log.reached.posted_after_earlier)
+    rw c.linked.ensures (in_order_first rounds.table.lanes (plan_rows p) (first_rounds p c.know_lawful.ensures.lawful rounds kept.rounds)
+    c.self.inside.state c.self.invariant.log.reached.posted_after_earlier)
 
 pub returns : goal.returns
 returns g c =

@@ -30,7 +30,8 @@ may_go-requires-clause-held g c in_window =
     (c.compute_for.ensures.held (subst (λ (b : BookContents g.row.J.Denot). posted_at b.state c.args.p < least_posted b.state + b.window) same in_window))
 
 pub hand_out-job-requires-clause-free : goal.hand_out-job-requires-clause-free
-hand_out-job-requires-clause-free g c = ap (λ (b : BookContents g.row.J.Denot). (lane_at b.state.lanes c.args.p).out) c.compute_for.ensures.book ∙ c.requires.free
+hand_out-job-requires-clause-free g c = ap (λ (b : BookContents g.row.J.Denot). (lane_at b.state.lanes c.args.p).out) c.compute_for.ensures.book
+    ∙ c.requires.free
 
 pub hand_out-job-requires-clause-ready : goal.hand_out-job-requires-clause-ready
 hand_out-job-requires-clause-ready g c = c.may_go.ensures.0 c.if-may_go.true
@@ -40,7 +41,8 @@ hand_out-job-requires-clause-held g c =
     let new : BookContents g.row.J.Denot = c.compute_for.new.self in
     let same = c.compute_for.ensures.book in
     subst (λ n. n < rounds_in new.table.lanes) (sym (ap (λ (b : BookContents g.row.J.Denot). posted_at b.state c.args.p) same))
-    (c.compute_for.ensures.held (subst (λ (b : BookContents g.row.J.Denot). posted_at b.state c.args.p < least_posted b.state + b.window) same (c.may_go.ensures.0 c.if-may_go.true).in_window))
+    (c.compute_for.ensures.held (subst (λ (b : BookContents g.row.J.Denot). posted_at b.state c.args.p < least_posted b.state + b.window) same
+    (c.may_go.ensures.0 c.if-may_go.true).in_window))
 
 pub hand_out-job-requires-clause-open : goal.hand_out-job-requires-clause-open
 hand_out-job-requires-clause-open g c none = c.requires.open (sym (ap (λ (b : BookContents g.row.J.Denot). b.side) c.compute_for.ensures.book) ∙ none)
@@ -59,8 +61,10 @@ returns-then-may_go-clause-says g c =
     let old : BookContents g.row.J.Denot = c.args.self.now in
     let new : BookContents g.row.J.Denot = c.compute_for.new.self in
     let same : new ≡ record old { table = new.table } = c.compute_for.ensures.book in
-    let hands : Hands g.J.Job.id g.J.Job.used g.J.Job.made g.Q.PostLedger.made (record old { table = new.table }) c.hand_out-job.new.self c.args.p c.hand_out-job.result.0 c.hand_out-job.result.1 =
-    subst (λ (b : BookContents g.row.J.Denot). Hands g.J.Job.id g.J.Job.used g.J.Job.made g.Q.PostLedger.made b c.hand_out-job.new.self c.args.p c.hand_out-job.result.0 c.hand_out-job.result.1)
+    let hands : Hands g.J.Job.id g.J.Job.used g.J.Job.made g.Q.PostLedger.made (record old { table = new.table }) c.hand_out-job.new.self c.args.p
+    c.hand_out-job.result.0 c.hand_out-job.result.1 =
+    subst (λ (b : BookContents g.row.J.Denot). Hands g.J.Job.id g.J.Job.used g.J.Job.made g.Q.PostLedger.made b c.hand_out-job.new.self c.args.p
+    c.hand_out-job.result.0 c.hand_out-job.result.1)
     same c.hand_out-job.ensures.hands in
     record { legal = hands.legal; ready = hands.ready; own = hands.own; book = hands.book }
 
@@ -76,7 +80,12 @@ returns-then-halted-clause-rounds g c =
     record { wanted = λ wants. absurd (let e : true ≡ false = sym halted ∙ wants.running in cc); unwanted = λ _. refl }
 
 pub returns-then-is_done-clause-says : goal.returns-then-is_done-clause-says
-returns-then-is_done-clause-says g c = (not_halted c.args.self.now.state.halted c.halted.result c.halted.ensures.1 c.if-halted.false, c.is_done.ensures.done c.if-is_done.true, refl)
+returns-then-is_done-clause-says g c = (
+  not_halted c.args.self.now.state.halted c.halted.result c.halted.ensures.1 c.if-halted.false,
+  c.is_done.ensures.done
+      c.if-is_done.true,
+  refl,
+)
 
 pub returns-then-is_done-clause-rounds : goal.returns-then-is_done-clause-rounds
 returns-then-is_done-clause-rounds g c =
@@ -90,7 +99,8 @@ pub compute_for-requires-clause-left : goal.compute_for-requires-clause-left
 compute_for-requires-clause-left g c = c.is_done.ensures.left c.if-is_done.false
 
 pub hand_out-job-requires-clause-running : goal.hand_out-job-requires-clause-running
-hand_out-job-requires-clause-running g c = ap (λ (b : BookContents g.row.J.Denot). b.state.halted) c.compute_for.ensures.book ∙ not_halted c.args.self.now.state.halted c.halted.result c.halted.ensures.1 c.if-halted.false
+hand_out-job-requires-clause-running g c = ap (λ (b : BookContents g.row.J.Denot). b.state.halted) c.compute_for.ensures.book
+    ∙ not_halted c.args.self.now.state.halted c.halted.result c.halted.ensures.1 c.if-halted.false
 
 pub mark-requires : goal.mark-requires
 mark-requires g c = subst (λ (b : BookContents g.row.J.Denot). c.args.p < length b.state.lanes) (sym c.compute_for.ensures.book) c.requires.lane
@@ -111,8 +121,10 @@ returns-clause-says g c =
       running = not_halted old.state.halted c.halted.result c.halted.ensures.1 c.if-halted.false;
       left = c.is_done.ensures.left c.if-is_done.false;
       not_legal = λ legal.
-          let due : HasTakeable (plan_rows old.plan) old.window old.state p = record { in_window = legal.1.in_window; next = (legal.0, legal.1.is_next, legal.1.earlier) } in
-          let told : c.may_go.result ≡ true = c.may_go.ensures.1 (subst (λ (b : BookContents g.row.J.Denot). HasTakeable (plan_rows b.plan) b.window b.state p) (sym same) due) in
+          let due : HasTakeable (plan_rows old.plan) old.window old.state p =
+          record { in_window = legal.1.in_window; next = (legal.0, legal.1.is_next, legal.1.earlier) } in
+          let told : c.may_go.result ≡ true = c.may_go.ensures.1 (subst (λ (b : BookContents g.row.J.Denot). HasTakeable (plan_rows b.plan) b.window b.state
+          p) (sym same) due) in
           absurd (let e : true ≡ false = sym told ∙ c.if-may_go.false in cc);
       held = c.compute_for.ensures.held;
       book = same;

@@ -12,7 +12,8 @@ pub returns : goal.returns
 returns c =
     let plan = c.args.plan.now in
     let lanes : c.processors-lanes.result ≡ plan.tree.processors = c.processors-lanes.ensures.value ∙ ap (λ (t : Tree). t.processors) c.tree.ensures.value in
-    let rows : c.args.rounds * c.from.result ≡ rounds_of plan * plan.tree.processors = ap (λ n. n * c.from.result) c.requires.rounds ∙ ap (λ n. rounds_of plan * n) (c.from.ensures ∙ lanes) in
+    let rows : c.args.rounds * c.from.result ≡ rounds_of plan * plan.tree.processors = ap (λ n. n * c.from.result) c.requires.rounds
+    ∙ ap (λ n. rounds_of plan * n) (c.from.ensures ∙ lanes) in
     let capacity = c.in_ok-with_room.ensures.room in
     record {
       rounds = c.in_ok-new.ensures.rounds;

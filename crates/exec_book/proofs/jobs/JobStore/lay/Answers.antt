@@ -9,4 +9,5 @@ unreachable-requires g c =
     cc
 
 pub returns-in_default : goal.returns-in_default
-returns-in_default g c = ap (λ jobs. record c.args.self.now { jobs = jobs }) (sym (without_job c.args.self.now.jobs c.args.leaf c.args.job c.in_default.not-Task))
+returns-in_default g c = ap (λ jobs. record c.args.self.now { jobs = jobs }) (sym (without_job c.args.self.now.jobs c.args.leaf c.args.job
+    c.in_default.not-Task))

@@ -22,10 +22,12 @@ pub returns-in_err-to_vec-clause-begun : goal.returns-in_err-to_vec-clause-begun
 returns-in_err-to_vec-clause-begun c = IfOk-from_err _ _ c.from_residual-in_err-to_vec.ensures.0
 
 pub returns-in_err-to_vec-clause-fault : goal.returns-in_err-to_vec-clause-fault
-returns-in_err-to_vec-clause-fault c = let why = err_from_is_err_and c.from_residual-in_err-to_vec.result c.from_residual-in_err-to_vec.ensures.1 in rw (why.1, why.2) tt
+returns-in_err-to_vec-clause-fault c = let why = err_from_is_err_and c.from_residual-in_err-to_vec.result c.from_residual-in_err-to_vec.ensures.1 in
+    rw (why.1, why.2) tt
 
 pub returns-in_err-insert-clause-begun : goal.returns-in_err-insert-clause-begun
 returns-in_err-insert-clause-begun c = IfOk-from_err _ _ c.from_residual-in_err-insert.ensures.0
 
 pub returns-in_err-insert-clause-fault : goal.returns-in_err-insert-clause-fault
-returns-in_err-insert-clause-fault c = let why = err_from_is_err_and c.from_residual-in_err-insert.result c.from_residual-in_err-insert.ensures.1 in rw (why.1, why.2) tt
+returns-in_err-insert-clause-fault c = let why = err_from_is_err_and c.from_residual-in_err-insert.result c.from_residual-in_err-insert.ensures.1 in
+    rw (why.1, why.2) tt

@@ -12,21 +12,24 @@ returns-in-0 c =
     c.put.ensures ∙ set_is (c.args.word / 2 ^ 40) (c.args.word / 2 ^ 32 % 2 ^ 8) (c.args.word % 2 ^ 32) c.args.self.now c.in-0.is c.if-a-ge8.false (omega arith)
 
 pub returns-in-1 : goal.returns-in-1
-returns-in-1 c = cc (add_is (c.args.word / 2 ^ 40) (c.args.word / 2 ^ 32 % 2 ^ 8) (c.args.word % 2 ^ 32) c.args.self.now c.in-1.is c.if-a-ge8.false c.if-b-lt8.true)
+returns-in-1 c = cc (add_is (c.args.word / 2 ^ 40) (c.args.word / 2 ^ 32 % 2 ^ 8) (c.args.word % 2 ^ 32) c.args.self.now c.in-1.is c.if-a-ge8.false
+    c.if-b-lt8.true)
 
 pub returns-else-b-lt8 : goal.returns-else-b-lt8
 returns-else-b-lt8 c =
     no_second (c.args.word / 2 ^ 40) (c.args.word / 2 ^ 32 % 2 ^ 8) (c.args.word % 2 ^ 32) c.args.self.now (omega arith) (omega arith) c.if-b-lt8.false
 
 pub returns-in-2 : goal.returns-in-2
-returns-in-2 c = cc (sub_is (c.args.word / 2 ^ 40) (c.args.word / 2 ^ 32 % 2 ^ 8) (c.args.word % 2 ^ 32) c.args.self.now c.in-2.is c.if-a-ge8.false c.if-b-lt8-2.true)
+returns-in-2 c = cc (sub_is (c.args.word / 2 ^ 40) (c.args.word / 2 ^ 32 % 2 ^ 8) (c.args.word % 2 ^ 32) c.args.self.now c.in-2.is c.if-a-ge8.false
+    c.if-b-lt8-2.true)
 
 pub returns-else-b-lt8-2 : goal.returns-else-b-lt8-2
 returns-else-b-lt8-2 c =
     no_second (c.args.word / 2 ^ 40) (c.args.word / 2 ^ 32 % 2 ^ 8) (c.args.word % 2 ^ 32) c.args.self.now (omega arith) (omega arith) c.if-b-lt8-2.false
 
 pub returns-in-3 : goal.returns-in-3
-returns-in-3 c = cc (mul_is (c.args.word / 2 ^ 40) (c.args.word / 2 ^ 32 % 2 ^ 8) (c.args.word % 2 ^ 32) c.args.self.now c.in-3.is c.if-a-ge8.false c.if-b-lt8-3.true)
+returns-in-3 c = cc (mul_is (c.args.word / 2 ^ 40) (c.args.word / 2 ^ 32 % 2 ^ 8) (c.args.word % 2 ^ 32) c.args.self.now c.in-3.is c.if-a-ge8.false
+    c.if-b-lt8-3.true)
 
 pub returns-else-b-lt8-3 : goal.returns-else-b-lt8-3
 returns-else-b-lt8-3 c =
@@ -53,5 +56,6 @@ returns-else-a-eq0 c = no_jump (c.args.word / 2 ^ 40) (c.args.word / 2 ^ 32 % 2 
 
 pub returns-else-a-ge8 : goal.returns-else-a-ge8
 returns-else-a-ge8 c =
-    no_operation (c.args.word / 2 ^ 40) (c.args.word / 2 ^ 32 % 2 ^ 8) (c.args.word % 2 ^ 32) c.args.self.now (λ e. absurd (omega arith)) (λ e. absurd (omega arith))
+    no_operation (c.args.word / 2 ^ 40) (c.args.word / 2 ^ 32 % 2 ^ 8) (c.args.word % 2 ^ 32) c.args.self.now (λ e. absurd (omega arith))
+    (λ e. absurd (omega arith))
     (λ e. absurd (omega arith)) (λ e. absurd (omega arith)) (λ e. absurd (omega arith)) (λ e. absurd (omega arith))

@@ -19,11 +19,13 @@ returns-clause-own c =
     let long = ap (λ (xs : List Bool). length xs) c.self.view_is in
     let within = c.requires in
     let words = written c.self.inside.words c.deref_mut.result.now c.set_mark.new.words c.deref_mut.ensures.value c.set_mark.auto.words in
-    ap (λ (ws : List ℕ). get_or (marks_by ws c.self.inside.count) c.args.k false) words ∙ mark_at c.set_mark.new.words c.self.inside.count c.args.k (omega (arith, many, long, within)) ∙ c.set_mark.ensures.own
+    ap (λ (ws : List ℕ). get_or (marks_by ws c.self.inside.count) c.args.k false) words ∙ mark_at c.set_mark.new.words c.self.inside.count c.args.k
+    (omega (arith, many, long, within)) ∙ c.set_mark.ensures.own
 
 pub returns-clause-rest : goal.returns-clause-rest
 returns-clause-rest c = λ j on.
     let words = written c.self.inside.words c.deref_mut.result.now c.set_mark.new.words c.deref_mut.ensures.value c.set_mark.auto.words in
     ap (λ (ws : List ℕ). get_or (marks_by ws c.self.inside.count) j false) words
-    ∙ marked_list c.self.inside.words.items c.set_mark.new.words c.self.inside.count (λ i e. c.set_mark.ensures.rest i (ap (λ (ws : List ℕ). is_marked ws i) c.deref_mut.ensures.value ∙ e)) j
+    ∙ marked_list c.self.inside.words.items c.set_mark.new.words c.self.inside.count (λ i e. c.set_mark.ensures.rest i (ap (λ (ws : List ℕ). is_marked ws i)
+    c.deref_mut.ensures.value ∙ e)) j
     (ap (λ (xs : List Bool). get_or xs j false) c.self.view_is ∙ on)

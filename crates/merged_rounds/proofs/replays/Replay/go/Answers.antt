@@ -7,7 +7,8 @@ use Rattle.event_core.specs.Rounds.{IsRoundUpTo}
 use Rattle.cpu_assign.proofs.StepLemmas.{written}
 use Rattle.merged_rounds.specs.Replays.{AreNotedTo, IsTaken, packs_kept, part_start, shown_kept}
 use Rattle.merged_rounds.specs.Shown.{PackShows, packs_in, shown_in}
-use Rattle.merged_rounds.proofs.ReplaySteps.{changed_now, end_fits, high_fits, high_is, last_long, low_fits, next_entries, ordered_as, replay_on, round_now, taken_as}
+use Rattle.merged_rounds.proofs.ReplaySteps.{changed_now, end_fits, high_fits, high_is, last_long, low_fits, next_entries, ordered_as, replay_on}
+use Rattle.merged_rounds.proofs.ReplaySteps.{round_now, taken_as}
 use Rattle.merged_rounds.proofs.replays.Replay.go.Goals as goal
 
 pub part-low-requires : goal.part-low-requires
@@ -23,11 +24,14 @@ take_entries-requires-clause-ordered c =
     let r = c.args.self.now in
     let b = c.requires.belongs in
     let l = c.requires.early in
-    ordered_as (packs_kept r.lap) _ (part_start r.lap.parts.items r.next) _ (get_or r.lap.parts.items r.next 0) _ _ _ (ap (λ (es : List PackShows). packs_in es) c.deref.ensures.value) c.part-low.ensures
-    (c.part-high.ensures ∙ high_is p h c.args.start r b l) (ap (λ (xs : List (Option Leaf)). length xs) c.deref_mut.ensures.value ∙ b.long) (next_entries p h c.args.start r b l).ordered
+    ordered_as (packs_kept r.lap) _ (part_start r.lap.parts.items r.next) _ (get_or r.lap.parts.items r.next 0) _ _ _
+    (ap (λ (es : List PackShows). packs_in es) c.deref.ensures.value) c.part-low.ensures
+    (c.part-high.ensures ∙ high_is p h c.args.start r b l) (ap (λ (xs : List (Option Leaf)). length xs) c.deref_mut.ensures.value ∙ b.long)
+    (next_entries p h c.args.start r b l).ordered
 
 pub take_entries-requires-clause-room : goal.take_entries-requires-clause-room
-take_entries-requires-clause-room c = c.requires.belongs.room ∙ sym c.requires.belongs.long ∙ sym (ap (λ (xs : List (Option Leaf)). length xs) c.deref_mut.ensures.value)
+take_entries-requires-clause-room c = c.requires.belongs.room ∙ sym c.requires.belongs.long ∙ sym (ap (λ (xs : List (Option Leaf)). length xs)
+    c.deref_mut.ensures.value)
 
 pub place_again-requires : goal.place_again-requires
 place_again-requires c =
@@ -39,10 +43,14 @@ place_again-requires c =
     let start = c.args.start in
     let now = c.take_entries.new.shows in
     let high = c.part-high.ensures ∙ high_is p h start r b l in
-    let taken : (k : ℕ) → IsTaken (packs_kept r.lap) (shown_kept r.lap) (part_start r.lap.parts.items r.next) (get_or r.lap.parts.items r.next 0) r.shows.items now k =
-    (λ k. taken_as (packs_kept r.lap) (packs_in c.deref.result.now) (shown_kept r.lap) (shown_in c.deref.result.now) (part_start r.lap.parts.items r.next) c.part-low.result (get_or r.lap.parts.items r.next 0) c.part-high.result
-    r.shows.items c.deref_mut.result.now now k (ap (λ (es : List PackShows). packs_in es) c.deref.ensures.value) (ap (λ (es : List PackShows). shown_in es) c.deref.ensures.value) c.part-low.ensures high c.deref_mut.ensures.value (c.take_entries.ensures.taken k)) in
-    let noted = subst (λ (xs : List (Option Leaf)). AreNotedTo xs now (length xs) c.take_entries.new.changes) c.deref_mut.ensures.value c.take_entries.ensures.noted in
+    let taken : (k : ℕ) → IsTaken (packs_kept r.lap) (shown_kept r.lap) (part_start r.lap.parts.items r.next) (get_or r.lap.parts.items r.next 0)
+    r.shows.items now k =
+    (λ k. taken_as (packs_kept r.lap) (packs_in c.deref.result.now) (shown_kept r.lap) (shown_in c.deref.result.now) (part_start r.lap.parts.items r.next)
+    c.part-low.result (get_or r.lap.parts.items r.next 0) c.part-high.result
+    r.shows.items c.deref_mut.result.now now k (ap (λ (es : List PackShows). packs_in es) c.deref.ensures.value) (ap (λ (es : List PackShows). shown_in es)
+    c.deref.ensures.value) c.part-low.ensures high c.deref_mut.ensures.value (c.take_entries.ensures.taken k)) in
+    let noted = subst (λ (xs : List (Option Leaf)). AreNotedTo xs now (length xs) c.take_entries.new.changes) c.deref_mut.ensures.value
+    c.take_entries.ensures.noted in
     let changed = changed_now p h start r b l now taken c.take_entries.new.changes noted in
     record { changes = (packs_running (set_boundary p.set.tasks) p.tree start, last_long p h start r b l, changed) }
 
@@ -77,17 +85,22 @@ returns-clause-belongs c =
     let start = c.args.start in
     let now = c.take_entries.new.shows in
     let high = c.part-high.ensures ∙ high_is p h start r b l in
-    let taken : (k : ℕ) → IsTaken (packs_kept r.lap) (shown_kept r.lap) (part_start r.lap.parts.items r.next) (get_or r.lap.parts.items r.next 0) r.shows.items now k =
-    (λ k. taken_as (packs_kept r.lap) (packs_in c.deref.result.now) (shown_kept r.lap) (shown_in c.deref.result.now) (part_start r.lap.parts.items r.next) c.part-low.result (get_or r.lap.parts.items r.next 0) c.part-high.result
-    r.shows.items c.deref_mut.result.now now k (ap (λ (es : List PackShows). packs_in es) c.deref.ensures.value) (ap (λ (es : List PackShows). shown_in es) c.deref.ensures.value) c.part-low.ensures high c.deref_mut.ensures.value (c.take_entries.ensures.taken k)) in
-    let noted = subst (λ (xs : List (Option Leaf)). AreNotedTo xs now (length xs) c.take_entries.new.changes) c.deref_mut.ensures.value c.take_entries.ensures.noted in
+    let taken : (k : ℕ) → IsTaken (packs_kept r.lap) (shown_kept r.lap) (part_start r.lap.parts.items r.next) (get_or r.lap.parts.items r.next 0)
+    r.shows.items now k =
+    (λ k. taken_as (packs_kept r.lap) (packs_in c.deref.result.now) (shown_kept r.lap) (shown_in c.deref.result.now) (part_start r.lap.parts.items r.next)
+    c.part-low.result (get_or r.lap.parts.items r.next 0) c.part-high.result
+    r.shows.items c.deref_mut.result.now now k (ap (λ (es : List PackShows). packs_in es) c.deref.ensures.value) (ap (λ (es : List PackShows). shown_in es)
+    c.deref.ensures.value) c.part-low.ensures high c.deref_mut.ensures.value (c.take_entries.ensures.taken k)) in
+    let noted = subst (λ (xs : List (Option Leaf)). AreNotedTo xs now (length xs) c.take_entries.new.changes) c.deref_mut.ensures.value
+    c.take_entries.ensures.noted in
     let changed = changed_now p h start r b l now taken c.take_entries.new.changes noted in
     let placed = c.place_again.ensures.places (packs_running (set_boundary p.set.tasks) p.tree start) (last_long p h start r b l) changed in
     let shows = written r.shows c.deref_mut.result.now now c.deref_mut.ensures.value c.take_entries.auto.shows in
     let many = c.take_entries.auto.shows ∙ ap (λ (xs : List (Option Leaf)). length xs) c.deref_mut.ensures.value ∙ b.long in
     let end : c.end_of-end.result ≡ min (get_or r.lap.ends r.next 0 + r.shift) (stop_of p) =
     c.end_of-end.ensures ∙ ap (λ n. min (get_or r.lap.ends r.next 0 + r.shift) n) c.rounds_end.ensures.value in
-    replay_on p h start r b l now taken _ refl shows many placed (c.take_entries.ensures.room ∙ b.room) c.behind-next.ensures.within c.behind-next.ensures.at c.behind-next.ensures.shift c.behind-next.ensures.next c.end_of-end.result end
+    replay_on p h start r b l now taken _ refl shows many placed (c.take_entries.ensures.room ∙ b.room) c.behind-next.ensures.within
+    c.behind-next.ensures.at c.behind-next.ensures.shift c.behind-next.ensures.next c.end_of-end.result end
 
 pub returns-clause-placed : goal.returns-clause-placed
 returns-clause-placed c =
@@ -99,10 +112,14 @@ returns-clause-placed c =
     let start = c.args.start in
     let now = c.take_entries.new.shows in
     let high = c.part-high.ensures ∙ high_is p h start r b l in
-    let taken : (k : ℕ) → IsTaken (packs_kept r.lap) (shown_kept r.lap) (part_start r.lap.parts.items r.next) (get_or r.lap.parts.items r.next 0) r.shows.items now k =
-    (λ k. taken_as (packs_kept r.lap) (packs_in c.deref.result.now) (shown_kept r.lap) (shown_in c.deref.result.now) (part_start r.lap.parts.items r.next) c.part-low.result (get_or r.lap.parts.items r.next 0) c.part-high.result
-    r.shows.items c.deref_mut.result.now now k (ap (λ (es : List PackShows). packs_in es) c.deref.ensures.value) (ap (λ (es : List PackShows). shown_in es) c.deref.ensures.value) c.part-low.ensures high c.deref_mut.ensures.value (c.take_entries.ensures.taken k)) in
-    let noted = subst (λ (xs : List (Option Leaf)). AreNotedTo xs now (length xs) c.take_entries.new.changes) c.deref_mut.ensures.value c.take_entries.ensures.noted in
+    let taken : (k : ℕ) → IsTaken (packs_kept r.lap) (shown_kept r.lap) (part_start r.lap.parts.items r.next) (get_or r.lap.parts.items r.next 0)
+    r.shows.items now k =
+    (λ k. taken_as (packs_kept r.lap) (packs_in c.deref.result.now) (shown_kept r.lap) (shown_in c.deref.result.now) (part_start r.lap.parts.items r.next)
+    c.part-low.result (get_or r.lap.parts.items r.next 0) c.part-high.result
+    r.shows.items c.deref_mut.result.now now k (ap (λ (es : List PackShows). packs_in es) c.deref.ensures.value) (ap (λ (es : List PackShows). shown_in es)
+    c.deref.ensures.value) c.part-low.ensures high c.deref_mut.ensures.value (c.take_entries.ensures.taken k)) in
+    let noted = subst (λ (xs : List (Option Leaf)). AreNotedTo xs now (length xs) c.take_entries.new.changes) c.deref_mut.ensures.value
+    c.take_entries.ensures.noted in
     let changed = changed_now p h start r b l now taken c.take_entries.new.changes noted in
     let shows = written r.shows c.deref_mut.result.now now c.deref_mut.ensures.value c.take_entries.auto.shows in
     record {

@@ -36,13 +36,17 @@ pub returns-clause-others : goal.returns-clause-others
 returns-clause-others c = λ q before none l away up.
     let p = c.args.plan.now in
     let r' = c.go-end.new.self in
-    let tells = subst (λ (xs : List ℕ). AreTold r'.places xs c.tell_places-count.new.told (length xs) c.tell_places-count.result) c.seen.ensures.packs c.tell_places-count.ensures.told in
-    others_same p c.know_lawful.ensures.lawful c.args.start c.go-end.result c.args.self.now r' c.requires.belongs c.go-end.ensures.belongs c.go-end.ensures.round c.go-end.ensures.placed
+    let tells = subst (λ (xs : List ℕ). AreTold r'.places xs c.tell_places-count.new.told (length xs) c.tell_places-count.result) c.seen.ensures.packs
+    c.tell_places-count.ensures.told in
+    others_same p c.know_lawful.ensures.lawful c.args.start c.go-end.result c.args.self.now r' c.requires.belongs c.go-end.ensures.belongs
+    c.go-end.ensures.round c.go-end.ensures.placed
     c.know_noted.ensures c.know_noted-2.ensures c.tell_places-count.new.told c.tell_places-count.result tells q l away before up none
 
 pub returns-clause-placed : goal.returns-clause-placed
 returns-clause-placed c = λ q l away.
     let r' = c.go-end.new.self in
-    let tells = subst (λ (xs : List ℕ). AreTold r'.places xs c.tell_places-count.new.told (length xs) c.tell_places-count.result) c.seen.ensures.packs c.tell_places-count.ensures.told in
-    stays c.args.plan.now c.know_lawful.ensures.lawful c.args.start c.go-end.result c.args.self.now r' c.requires.belongs c.go-end.ensures.belongs c.go-end.ensures.round c.go-end.ensures.placed
+    let tells = subst (λ (xs : List ℕ). AreTold r'.places xs c.tell_places-count.new.told (length xs) c.tell_places-count.result) c.seen.ensures.packs
+    c.tell_places-count.ensures.told in
+    stays c.args.plan.now c.know_lawful.ensures.lawful c.args.start c.go-end.result c.args.self.now r' c.requires.belongs c.go-end.ensures.belongs
+    c.go-end.ensures.round c.go-end.ensures.placed
     c.know_noted.ensures c.know_noted-2.ensures c.tell_places-count.new.told c.tell_places-count.result tells q l away

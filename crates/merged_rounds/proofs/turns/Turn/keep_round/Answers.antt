@@ -63,14 +63,16 @@ packs-preserved c =
     let some : c.packs.k + 1 < next → 0 < length turn.ends = (λ l. c.is_none-whole.ensures (c.next_kept-k-in-packs.ensures.later l)) in
     let onto = ap (λ (w : Placing). w.onto) c.requires.places ∙ onto_end p h c.args.start c.args.end c.requires.round in
     let kept = c.in_ok-keep_pack.ensures.kept p c.args.start turn c.packs.invariant.kept (omega (arith, many, on))
-    (pack_by p h c.requires.can c.args.start c.args.end c.args.places.now.onto onto c.args.leaves.now c.requires.leaves c.packs.k c.of-leaf.result (λ free. c.of-leaf.ensures ∙ c.shown_by.ensures.none free) (λ q at. c.of-leaf.ensures ∙ c.shown_by.ensures.some q at)) in
+    (pack_by p h c.requires.can c.args.start c.args.end c.args.places.now.onto onto c.args.leaves.now c.requires.leaves c.packs.k c.of-leaf.result
+    (λ free. c.of-leaf.ensures ∙ c.shown_by.ensures.none free) (λ q at. c.of-leaf.ensures ∙ c.shown_by.ensures.some q at)) in
     record {
       kept = kept_to p c.args.start turn c.keep_pack.new.self (c.packs.k + 1) next c.next_kept-k-in-packs.ensures.after kept some (λ k low high.
           let inside : k < length turn.last.items = omega (arith, high, marks, within, long) in
           let still = c.requires.still (some (omega (arith, low, high))) in
           let off = c.next_kept-k-in-packs.ensures.skipped k low high in
           let same = kept.later k low in
-          pack_by p h c.requires.can c.args.start c.args.end c.args.places.now.onto onto c.args.leaves.now c.requires.leaves k (get_or c.keep_pack.new.self.last.items k None)
+          pack_by p h c.requires.can c.args.start c.args.end c.args.places.now.onto onto c.args.leaves.now c.requires.leaves k
+          (get_or c.keep_pack.new.self.last.items k None)
           (λ free. same ∙ still.none k (omega arith) inside off free) (λ q at. same ∙ still.some k q (omega arith) inside off at));
       within = omega (arith, marks, within);
     }
@@ -85,6 +87,8 @@ returns c =
     let kept = subst (λ (n : ℕ). AreKept p c.args.start c.args.self.now c.packs.self n) all c.packs.invariant.kept in
     let e = c.in_ok-close.ensures in
     record {
-      turn = turn_on p c.args.start c.args.end c.args.self.now c.packs.self c.close.new.self c.requires.turn c.requires.here c.requires.round kept e.ends e.parts e.entries e.last;
-      end = end_on p c.args.start c.args.end c.args.self.now c.packs.self c.close.new.self c.requires.turn c.requires.here c.requires.round kept e.ends e.parts e.entries e.last;
+      turn = turn_on p c.args.start c.args.end c.args.self.now c.packs.self c.close.new.self c.requires.turn c.requires.here c.requires.round kept e.ends
+          e.parts e.entries e.last;
+      end = end_on p c.args.start c.args.end c.args.self.now c.packs.self c.close.new.self c.requires.turn c.requires.here c.requires.round kept e.ends
+          e.parts e.entries e.last;
     }

@@ -13,19 +13,23 @@ index-requires c =
 
 pub add_to-requires-clause-names : goal.add_to-requires-clause-names
 add_to-requires-clause-names c =
-    subst (NamesAmong (length c.args.sums.now)) (seen_lane c.args.self.now c.self.inside.end c.self.inside.lanes.items c.args.p c.index.result.now c.self.view_is c.requires.processor c.index.ensures)
+    subst (NamesAmong (length c.args.sums.now)) (seen_lane c.args.self.now c.self.inside.end c.self.inside.lanes.items c.args.p c.index.result.now
+    c.self.view_is c.requires.processor c.index.ensures)
     c.requires.names
 
 pub add_to-requires-clause-forward : goal.add_to-requires-clause-forward
 add_to-requires-clause-forward c =
-    subst AreForward (seen_lane c.args.self.now c.self.inside.end c.self.inside.lanes.items c.args.p c.index.result.now c.self.view_is c.requires.processor c.index.ensures) c.requires.forward
+    subst AreForward (seen_lane c.args.self.now c.self.inside.end c.self.inside.lanes.items c.args.p c.index.result.now c.self.view_is c.requires.processor
+    c.index.ensures) c.requires.forward
 
 pub add_to-requires-clause-room : goal.add_to-requires-clause-room
 add_to-requires-clause-room c =
     subst (λ rows. HaveRoomFor rows c.args.sums.now)
-    (seen_lane c.args.self.now c.self.inside.end c.self.inside.lanes.items c.args.p c.index.result.now c.self.view_is c.requires.processor c.index.ensures) c.requires.room
+    (seen_lane c.args.self.now c.self.inside.end c.self.inside.lanes.items c.args.p c.index.result.now c.self.view_is c.requires.processor c.index.ensures)
+    c.requires.room
 
 pub returns : goal.returns
 returns c =
     subst (λ rows. Adds rows c.args.sums.now c.add_to.new.sums)
-    (sym (seen_lane c.args.self.now c.self.inside.end c.self.inside.lanes.items c.args.p c.index.result.now c.self.view_is c.requires.processor c.index.ensures)) c.add_to.ensures
+    (sym (seen_lane c.args.self.now c.self.inside.end c.self.inside.lanes.items c.args.p c.index.result.now c.self.view_is c.requires.processor
+    c.index.ensures)) c.add_to.ensures

@@ -26,7 +26,8 @@ returns-in_err-push-clause-start c = IfOk-from_err _ _ c.from_residual.ensures.0
 
 pub loop-p-preserved : goal.loop-p-preserved
 loop-p-preserved c =
-    c.in_ok-push.ensures.items ∙ ap (λ lane. c.loop-p.lanes.items ++ lane ∷ []) c.new.ensures ∙ ap (λ lanes. lanes ++ [] ∷ []) c.loop-p.invariant ∙ replicate_more c.loop-p._p []
+    c.in_ok-push.ensures.items ∙ ap (λ lane. c.loop-p.lanes.items ++ lane ∷ []) c.new.ensures ∙ ap (λ lanes. lanes ++ [] ∷ []) c.loop-p.invariant
+    ∙ replicate_more c.loop-p._p []
 
 pub returns-clause-start : goal.returns-clause-start
 returns-clause-start c = refl

@@ -17,7 +17,8 @@ row-requires c =
     let lane = c.index.result.now in
     let end = c.self.inside.end in
     let same : length (lane_of c.args.self.now.lanes c.args.p) ≡ length lane =
-    ap length (seen_lane c.args.self.now end c.self.inside.lanes.items c.args.p lane c.self.view_is c.requires.processor c.index.ensures) ∙ length-rows_up_to c.args.p end lane in
+    ap length (seen_lane c.args.self.now end c.self.inside.lanes.items c.args.p lane c.self.view_is c.requires.processor c.index.ensures)
+    ∙ length-rows_up_to c.args.p end lane in
     let row = c.requires.row in
     omega (arith, same, row)
 

@@ -39,7 +39,8 @@ returns-in_err-rounds-clause-refused c =
     let n = number (goal.at.returns-in_err-rounds-clause-refused c).After-len-mode in
     let why = err_from_is_err_and c.from_residual-in_err-rounds.result c.from_residual-in_err-rounds.ensures.1 in
     rw (← c.self.view_is) (rw (why.1, why.2)
-    (too_long_next c.self.inside.processors c.self.inside.modes.items c.self.invariant.0.each c.args.set c.in_default.ensures.none c.in_ok-plan.plan c.in_ok-plan.ensures.plan
+    (too_long_next c.self.inside.processors c.self.inside.modes.items c.self.invariant.0.each c.args.set c.in_default.ensures.none c.in_ok-plan.plan
+    c.in_ok-plan.ensures.plan
     c.in_ok-plan.ensures.fits c.self.inside.rows c.len-mode.result c.self.invariant.1 n _ c.in_err-rounds.ensures.refused))
 
 module _ (c : In_ok-push) where
@@ -47,7 +48,8 @@ module _ (c : In_ok-push) where
   mode = record { plan = c.in_ok-plan.plan; rounds = c.in_ok-rounds.rounds; start = c.self.inside.end }
 
   is_mode : IsMode c.self.inside.processors mode
-  is_mode = mode_made c.self.inside.processors c.args.set c.in_ok-plan.plan c.in_ok-rounds.rounds c.self.inside.end c.in_default.ensures.none c.set.ensures.lawful c.in_ok-plan.ensures.plan
+  is_mode = mode_made c.self.inside.processors c.args.set c.in_ok-plan.plan c.in_ok-rounds.rounds c.self.inside.end c.in_default.ensures.none
+      c.set.ensures.lawful c.in_ok-plan.ensures.plan
       c.in_ok-plan.ensures.fits c.in_ok-rounds.ensures.count.0 c.in_ok-rounds.ensures.some
 
   items : c.push.new.self.items ≡ c.self.inside.modes.items ++ mode ∷ []
@@ -62,7 +64,8 @@ module _ (c : In_ok-push) where
   few : all_rows_of c.self.inside.modes.items + rows_of c.in_ok-plan.plan ≤ row_limit
   few =
       let most : c.self.inside.rows + c.in_ok-rounds.rounds * c.in_ok-plan.plan.set.processors ≤ row_limit = c.in_ok-rounds.ensures.count.1 in
-      let same : c.in_ok-rounds.rounds * c.in_ok-plan.plan.set.processors ≡ rows_of c.in_ok-plan.plan = ap (λ n. n * c.in_ok-plan.plan.set.processors) c.in_ok-rounds.ensures.count.0 in
+      let same : c.in_ok-rounds.rounds * c.in_ok-plan.plan.set.processors ≡ rows_of c.in_ok-plan.plan = ap (λ n. n * c.in_ok-plan.plan.set.processors)
+      c.in_ok-rounds.ensures.count.0 in
       let so_far : c.self.inside.rows ≡ all_rows_of c.self.inside.modes.items = c.self.invariant.1 in
       omega (arith, most, same, so_far)
 

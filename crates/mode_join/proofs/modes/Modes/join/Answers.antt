@@ -11,7 +11,8 @@ returns-in_err-add-clause-refused c =
     let why = err_from_is_err_and c.from_residual.result c.from_residual.ensures.1 in
     rw (why.1, why.2)
     (refused_next c.loop-set.modes c.loop-set.invariant.are c.args.sets.items c.in-Some.set c.next.new.self.rest.items
-    (c.loop-set.invariant.whole ∙ ap (λ xs. sets_of c.loop-set.modes.modes ++ xs) c.in-Some.ensures.steps.0) c.loop-set.invariant.wide _ c.in_err-add.ensures.refused)
+    (c.loop-set.invariant.whole ∙ ap (λ xs. sets_of c.loop-set.modes.modes ++ xs) c.in-Some.ensures.steps.0) c.loop-set.invariant.wide _
+    c.in_err-add.ensures.refused)
 
 pub returns-clause-no_crossing : goal.returns-clause-no_crossing
 returns-clause-no_crossing c = all_end c.loop-set.modes.processors c.loop-set.modes.modes c.loop-set.invariant.are.each
@@ -66,9 +67,11 @@ loop-set-preserved c =
     let before = c.loop-set.modes in
     let later = c.next.new.self.rest.items in
     let told : sets_of c.add.new.self.modes ≡ sets_of before.modes ++ c.in-Some.set ∷ [] =
-    ap (λ (m : ModesContents). sets_of m.modes) modes ∙ map-append (λ (m : Mode). m.plan.set) before.modes (mode ∷ []) ∙ ap (λ s. sets_of before.modes ++ s ∷ []) set in
+    ap (λ (m : ModesContents). sets_of m.modes) modes ∙ map-append (λ (m : Mode). m.plan.set) before.modes (mode ∷ [])
+    ∙ ap (λ s. sets_of before.modes ++ s ∷ []) set in
     record {
-      whole = c.loop-set.invariant.whole ∙ ap (λ xs. sets_of before.modes ++ xs) c.in-Some.ensures.steps.0 ∙ sym (ap (λ xs. xs ++ later) told ∙ append_assoc (sets_of before.modes) (c.in-Some.set ∷ []) later);
+      whole = c.loop-set.invariant.whole ∙ ap (λ xs. sets_of before.modes ++ xs) c.in-Some.ensures.steps.0 ∙ sym (ap (λ xs. xs ++ later) told
+          ∙ append_assoc (sets_of before.modes) (c.in-Some.set ∷ []) later);
       wide = ap (λ (m : ModesContents). m.processors) modes ∙ c.loop-set.invariant.wide;
       are = c.in_ok-add.ensures.lawful;
     }

@@ -16,13 +16,15 @@ pack_on-requires c =
 pub shown_in-requires : goal.shown_in-requires
 shown_in-requires c = λ k at.
     let b = c.requires.belongs in
-    let w = pack_known c.args.plan.now c.know_lawful.ensures.lawful c.args.start c.args.end c.args.self.now b c.requires.round c.args.q c.requires.processor k (sym c.pack_on.ensures ∙ at) in
+    let w = pack_known c.args.plan.now c.know_lawful.ensures.lawful c.args.start c.args.end c.args.self.now b c.requires.round c.args.q c.requires.processor
+    k (sym c.pack_on.ensures ∙ at) in
     let long = b.long in
     let same = ap (λ (xs : List (Option Leaf)). length xs) c.deref.ensures.value in
     omega (arith, w, long, same)
 
 pub returns : goal.returns
 returns c =
-    shown_by c.args.plan.now c.know_lawful.ensures.lawful c.args.start c.args.end c.args.self.now c.requires.belongs c.requires.round c.args.q c.requires.processor c.pack_on.result (sym c.pack_on.ensures) c.shown_in.result
+    shown_by c.args.plan.now c.know_lawful.ensures.lawful c.args.start c.args.end c.args.self.now c.requires.belongs c.requires.round c.args.q
+    c.requires.processor c.pack_on.result (sym c.pack_on.ensures) c.shown_in.result
     c.shown_in.ensures.none
     (λ k l at is. c.shown_in.ensures.some k l at (ap (λ (xs : List (Option Leaf)). get_or xs k None) c.deref.ensures.value ∙ is))

@@ -11,7 +11,8 @@ use Rattle.part_rounds.proofs.PlacedLemmas.{changed_now, first_told, last_long, 
 use Rattle.part_rounds.proofs.placed.Placed.place_telling.Goals as goal
 
 pub note_all-requires-clause-many : goal.note_all-requires-clause-many
-note_all-requires-clause-many c = c.requires.shows.long ∙ sym c.requires.belongs.long ∙ ap (λ (xs : List (Option Leaf)). length xs) (sym c.deref_mut.ensures.value)
+note_all-requires-clause-many c = c.requires.shows.long ∙ sym c.requires.belongs.long ∙ ap (λ (xs : List (Option Leaf)). length xs)
+    (sym c.deref_mut.ensures.value)
 
 pub note_all-requires-clause-few : goal.note_all-requires-clause-few
 note_all-requires-clause-few c =
@@ -21,7 +22,8 @@ note_all-requires-clause-few c =
     omega (arith, long, few, last)
 
 pub note_all-requires-clause-room : goal.note_all-requires-clause-room
-note_all-requires-clause-room c = c.requires.belongs.room ∙ sym c.requires.belongs.long ∙ ap (λ (xs : List (Option Leaf)). length xs) (sym c.deref_mut.ensures.value)
+note_all-requires-clause-room c = c.requires.belongs.room ∙ sym c.requires.belongs.long ∙ ap (λ (xs : List (Option Leaf)). length xs)
+    (sym c.deref_mut.ensures.value)
 
 pub place_again-requires : goal.place_again-requires
 place_again-requires c =
@@ -33,7 +35,8 @@ place_again-requires c =
       changes = (
         packs_running (set_boundary p.set.tasks) p.tree c.args.start,
         last_long p c.args.start c.args.self.now c.requires.belongs,
-        changed_now p h c.args.start c.args.self.now c.requires.belongs c.args.shows.now c.requires.shows now c.note_all.ensures.shown c.note_all.new.changes noted,
+        changed_now p h c.args.start c.args.self.now c.requires.belongs c.args.shows.now c.requires.shows now c.note_all.ensures.shown
+            c.note_all.new.changes noted,
       );
     }
 
@@ -70,7 +73,8 @@ returns-clause-belongs c = λ end round.
     let placed = c.place_again.ensures.places (packs_running (set_boundary p.set.tasks) p.tree c.args.start) (last_long p c.args.start r b) changed in
     placed_on p h c.args.start r b c.args.shows.now c.requires.shows now c.note_all.ensures.shown c.note_all.new.changes noted _
     (written r.before c.deref_mut.result.now now c.deref_mut.ensures.value c.note_all.auto.before)
-    (c.note_all.auto.before ∙ ap (λ (xs : List (Option Leaf)). length xs) c.deref_mut.ensures.value ∙ b.long) placed (c.note_all.ensures.room ∙ b.room) end round
+    (c.note_all.auto.before ∙ ap (λ (xs : List (Option Leaf)). length xs) c.deref_mut.ensures.value ∙ b.long) placed (c.note_all.ensures.room ∙ b.room) end
+    round
 
 pub returns-clause-processors : goal.returns-clause-processors
 returns-clause-processors c = λ j l.
@@ -91,8 +95,10 @@ returns-clause-others c = λ q before end none l away up round.
     let noted = subst (λ (xs : List (Option Leaf)). AreNotedTo xs now (length xs) c.note_all.new.changes) c.deref_mut.ensures.value c.note_all.ensures.noted in
     let changed = changed_now p h c.args.start r b c.args.shows.now c.requires.shows now c.note_all.ensures.shown c.note_all.new.changes noted in
     let placed = c.place_again.ensures.places (packs_running (set_boundary p.set.tasks) p.tree c.args.start) (last_long p c.args.start r b) changed in
-    let tells = subst (λ (xs : List ℕ). AreTold places xs c.tell_places.new.told (length xs) c.tell_places.result) c.seen.ensures.packs c.tell_places.ensures.told in
-    others_same p h c.args.start r b c.args.shows.now c.requires.shows now c.note_all.ensures.shown c.note_all.new.changes noted places placed c.place_again.ensures.packs
+    let tells = subst (λ (xs : List ℕ). AreTold places xs c.tell_places.new.told (length xs) c.tell_places.result) c.seen.ensures.packs
+    c.tell_places.ensures.told in
+    others_same p h c.args.start r b c.args.shows.now c.requires.shows now c.note_all.ensures.shown c.note_all.new.changes noted places placed
+    c.place_again.ensures.packs
     c.know_noted.ensures c.know_noted-2.ensures c.tell_places.new.told c.tell_places.result tells q l away before end up none
 
 pub returns-clause-first : goal.returns-clause-first
@@ -106,6 +112,8 @@ returns-clause-first c = λ zero_is q l.
     let noted = subst (λ (xs : List (Option Leaf)). AreNotedTo xs now (length xs) c.note_all.new.changes) c.deref_mut.ensures.value c.note_all.ensures.noted in
     let changed = changed_now p h c.args.start r b c.args.shows.now c.requires.shows now c.note_all.ensures.shown c.note_all.new.changes noted in
     let placed = c.place_again.ensures.places (packs_running (set_boundary p.set.tasks) p.tree c.args.start) (last_long p c.args.start r b) changed in
-    let tells = subst (λ (xs : List ℕ). AreTold places xs c.tell_places.new.told (length xs) c.tell_places.result) c.seen.ensures.packs c.tell_places.ensures.told in
-    first_told p h c.args.start r b c.args.shows.now c.requires.shows now c.note_all.ensures.shown c.note_all.new.changes noted places placed c.place_again.ensures.packs
+    let tells = subst (λ (xs : List ℕ). AreTold places xs c.tell_places.new.told (length xs) c.tell_places.result) c.seen.ensures.packs
+    c.tell_places.ensures.told in
+    first_told p h c.args.start r b c.args.shows.now c.requires.shows now c.note_all.ensures.shown c.note_all.new.changes noted places placed
+    c.place_again.ensures.packs
     c.know_noted.ensures c.know_noted-2.ensures c.tell_places.new.told c.tell_places.result tells q l zero_is

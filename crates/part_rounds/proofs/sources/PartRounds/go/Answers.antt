@@ -24,8 +24,10 @@ overflow_mul-self c =
 pub returns-else-self-clause-belongs : goal.returns-else-self-clause-belongs
 returns-else-self-clause-belongs c =
     let r = c.args.self.now in
-    let long = ap (λ (xs : List (Option Leaf)). length xs) (written r.shows c.run_part.new.shows (c.run_part.ensures.round.long ∙ sym c.requires.belongs.long)) ∙ c.run_part.ensures.round.long in
-    computed_on c.args.plan.now r c.requires.belongs c.if-self.false c.run_part.new.core c.run_part.ensures.belongs _ (with_items r.shows c.run_part.new.shows) long
+    let long = ap (λ (xs : List (Option Leaf)). length xs) (written r.shows c.run_part.new.shows (c.run_part.ensures.round.long
+    ∙ sym c.requires.belongs.long)) ∙ c.run_part.ensures.round.long in
+    computed_on c.args.plan.now r c.requires.belongs c.if-self.false c.run_part.new.core c.run_part.ensures.belongs _
+    (with_items r.shows c.run_part.new.shows) long
     (ap (λ n. n * r.part.factor) c.now.ensures.value)
 
 pub replay-requires-clause-belongs : goal.replay-requires-clause-belongs

@@ -43,7 +43,8 @@ returns-then-i-len-clause-belongs c =
     let long : c.len.result ≡ length r.kept.ends.items = c.len.ensures ∙ r.kept.ends.ok.0 in
     let more = c.if-i-len.true in
     let written = written_vec_long c.args.plan.now r b c.requires.again c.requires.early h c.min-self.result at c.len-count.result count
-    c.deref.result.now c.deref_mut.result.now c.tell_kept.new.shows c.deref.ensures.value c.deref_mut.ensures.value c.tell_kept.ensures.long c.tell_kept.ensures.each in
+    c.deref.result.now c.deref_mut.result.now c.tell_kept.new.shows c.deref.ensures.value c.deref_mut.ensures.value c.tell_kept.ensures.long
+    c.tell_kept.ensures.each in
     again_next c.args.plan.now r b c.requires.again c.requires.early h c.min-self.result _ written at
     (omega (arith, long, more))
 
@@ -56,7 +57,8 @@ returns-then-i-len-clause-round c =
     let e = was_read r.kept.ends.items r.next 0 c.index.result.now (b.again c.requires.again).next c.index.ensures in
     let at : c.min-self.result ≡ min (get_or r.kept.ends.items r.next 0 + r.shift) r.stop = c.min-self.ensures ∙ ap (λ n. min (n + r.shift) r.stop) e in
     written_round c.args.plan.now r b c.requires.again c.requires.early h c.min-self.result at c.len-count.result count
-    c.deref.result.now c.deref_mut.result.now c.tell_kept.new.shows c.deref.ensures.value c.deref_mut.ensures.value c.tell_kept.ensures.long c.tell_kept.ensures.each
+    c.deref.result.now c.deref_mut.result.now c.tell_kept.new.shows c.deref.ensures.value c.deref_mut.ensures.value c.tell_kept.ensures.long
+    c.tell_kept.ensures.each
 
 pub returns-else-i-len-clause-belongs : goal.returns-else-i-len-clause-belongs
 returns-else-i-len-clause-belongs c =
@@ -69,7 +71,8 @@ returns-else-i-len-clause-belongs c =
     let long : c.len.result ≡ length r.kept.ends.items = c.len.ensures ∙ r.kept.ends.ok.0 in
     let last = c.if-i-len.false in
     let written = written_vec_long c.args.plan.now r b c.requires.again c.requires.early h c.min-self.result at c.len-count.result count
-    c.deref.result.now c.deref_mut.result.now c.tell_kept.new.shows c.deref.ensures.value c.deref_mut.ensures.value c.tell_kept.ensures.long c.tell_kept.ensures.each in
+    c.deref.result.now c.deref_mut.result.now c.tell_kept.new.shows c.deref.ensures.value c.deref_mut.ensures.value c.tell_kept.ensures.long
+    c.tell_kept.ensures.each in
     again_first c.args.plan.now r b c.requires.again c.requires.early h c.min-self.result _ written at
     (λ more. absurd (omega (arith, long, last, more)))
 
@@ -82,4 +85,5 @@ returns-else-i-len-clause-round c =
     let e = was_read r.kept.ends.items r.next 0 c.index.result.now (b.again c.requires.again).next c.index.ensures in
     let at : c.min-self.result ≡ min (get_or r.kept.ends.items r.next 0 + r.shift) r.stop = c.min-self.ensures ∙ ap (λ n. min (n + r.shift) r.stop) e in
     written_round c.args.plan.now r b c.requires.again c.requires.early h c.min-self.result at c.len-count.result count
-    c.deref.result.now c.deref_mut.result.now c.tell_kept.new.shows c.deref.ensures.value c.deref_mut.ensures.value c.tell_kept.ensures.long c.tell_kept.ensures.each
+    c.deref.result.now c.deref_mut.result.now c.tell_kept.new.shows c.deref.ensures.value c.deref_mut.ensures.value c.tell_kept.ensures.long
+    c.tell_kept.ensures.each

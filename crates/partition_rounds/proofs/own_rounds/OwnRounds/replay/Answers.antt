@@ -16,7 +16,8 @@ overflow_add-self-else-i-len c =
     let r = c.args.self.now in
     let long : c.len.result ≡ length r.kept.ends.items = c.len.ensures ∙ r.kept.ends.ok.0 in
     let last = c.if-i-len.false in
-    let fits = shift_fits c.args.plan.now c.args.q r c.requires.belongs c.requires.again c.requires.early c.know_lawful-2.ensures.lawful c.know_lawful.ensures.lawful
+    let fits = shift_fits c.args.plan.now c.args.q r c.requires.belongs c.requires.again c.requires.early c.know_lawful-2.ensures.lawful
+    c.know_lawful.ensures.lawful
     (λ more. absurd (omega (arith, long, last, more))) in
     omega (arith, fits)
 

@@ -13,7 +13,8 @@ go_if-count-requires-clause-belongs c =
     let q = c.loop-q.q in
     let moved = c.loop-q.invariant.moved in
     let in_lanes : q < length lanes = omega arith in
-    let at : slice_get lanes q ≡ Some c.index_mut.result.now = slice_get_read lanes (length lanes) q c.index_mut.result.now refl in_lanes c.index_mut.ensures.value in
+    let at : slice_get lanes q ≡ Some c.index_mut.result.now = slice_get_read lanes (length lanes) q c.index_mut.result.now refl in_lanes
+    c.index_mut.ensures.value in
     c.requires.belongs.each q c.index_mut.result.now (sym (moved.rest q (omega arith)) ∙ at)
 
 pub loop-q-preserved : goal.loop-q-preserved
@@ -31,7 +32,8 @@ loop-q-preserved c =
     let at : slice_get lanes q ≡ Some lane = slice_get_read lanes (length lanes) q lane refl in_lanes c.index_mut.ensures.value in
     let read : c.index.result.now ≡ lane' = c.index.ensures ∙ get_or-set_same lanes q lane' c.index.result.now in_lanes in
     let end : min c.loop-q.end lane'.end ≡ c.min-end.result = sym (c.min-end.ensures ∙ ap (λ (r : OwnRounds). min c.loop-q.end r.end) read) in
-    let P : ℕ → Type 0 = λ e. AreMoved plan tick (q + 1) old (record { lanes = set lanes q lane'; told = c.go_if-count.new.told; leaves = c.go_if-count.new.leaves; count = c.go_if-count.result; end = e }) in
+    let P : ℕ → Type 0 = λ e. AreMoved plan tick (q + 1) old
+    (record { lanes = set lanes q lane'; told = c.go_if-count.new.told; leaves = c.go_if-count.new.leaves; count = c.go_if-count.result; end = e }) in
     record {
       tick = refl;
       moved = subst P end (elim (cases_eq lane.end tick) [
@@ -47,7 +49,13 @@ returns-clause-belongs c =
     let part = c.args.self.now in
     let plan = c.args.plan.now in
     let old : Moving = record { lanes = part.lanes.items; told = c.args.told.now; leaves = c.args.leaves.now; count = 0; end = stop_of plan } in
-    let new : Moving = record { lanes = c.loop-q.self.lanes.items; told = c.loop-q.told; leaves = c.loop-q.leaves; count = c.loop-q.count; end = c.loop-q.end } in
+    let new : Moving = record {
+      lanes = c.loop-q.self.lanes.items;
+      told = c.loop-q.told;
+      leaves = c.loop-q.leaves;
+      count = c.loop-q.count;
+      end = c.loop-q.end;
+    } in
     let long = c.loop-q.invariant.moved.long in
     let all : c.loop-q.q ≡ length part.lanes.items = omega arith in
     let gone = gone_on plan c.rounds_end-end.ensures.lawful part c.requires.belongs c.requires.early old new c.loop-q.q refl all c.loop-q.invariant.moved in
@@ -67,7 +75,13 @@ returns-clause-round c =
     let part = c.args.self.now in
     let plan = c.args.plan.now in
     let old : Moving = record { lanes = part.lanes.items; told = c.args.told.now; leaves = c.args.leaves.now; count = 0; end = stop_of plan } in
-    let new : Moving = record { lanes = c.loop-q.self.lanes.items; told = c.loop-q.told; leaves = c.loop-q.leaves; count = c.loop-q.count; end = c.loop-q.end } in
+    let new : Moving = record {
+      lanes = c.loop-q.self.lanes.items;
+      told = c.loop-q.told;
+      leaves = c.loop-q.leaves;
+      count = c.loop-q.count;
+      end = c.loop-q.end;
+    } in
     let long = c.loop-q.invariant.moved.long in
     let all : c.loop-q.q ≡ length part.lanes.items = omega arith in
     let gone = gone_on plan c.rounds_end-end.ensures.lawful part c.requires.belongs c.requires.early old new c.loop-q.q refl all c.loop-q.invariant.moved in
@@ -78,7 +92,13 @@ returns-clause-all c =
     let part = c.args.self.now in
     let plan = c.args.plan.now in
     let old : Moving = record { lanes = part.lanes.items; told = c.args.told.now; leaves = c.args.leaves.now; count = 0; end = stop_of plan } in
-    let new : Moving = record { lanes = c.loop-q.self.lanes.items; told = c.loop-q.told; leaves = c.loop-q.leaves; count = c.loop-q.count; end = c.loop-q.end } in
+    let new : Moving = record {
+      lanes = c.loop-q.self.lanes.items;
+      told = c.loop-q.told;
+      leaves = c.loop-q.leaves;
+      count = c.loop-q.count;
+      end = c.loop-q.end;
+    } in
     let long = c.loop-q.invariant.moved.long in
     let all : c.loop-q.q ≡ length part.lanes.items = omega arith in
     let gone = gone_on plan c.rounds_end-end.ensures.lawful part c.requires.belongs c.requires.early old new c.loop-q.q refl all c.loop-q.invariant.moved in
@@ -89,7 +109,13 @@ returns-clause-first c =
     let part = c.args.self.now in
     let plan = c.args.plan.now in
     let old : Moving = record { lanes = part.lanes.items; told = c.args.told.now; leaves = c.args.leaves.now; count = 0; end = stop_of plan } in
-    let new : Moving = record { lanes = c.loop-q.self.lanes.items; told = c.loop-q.told; leaves = c.loop-q.leaves; count = c.loop-q.count; end = c.loop-q.end } in
+    let new : Moving = record {
+      lanes = c.loop-q.self.lanes.items;
+      told = c.loop-q.told;
+      leaves = c.loop-q.leaves;
+      count = c.loop-q.count;
+      end = c.loop-q.end;
+    } in
     let long = c.loop-q.invariant.moved.long in
     let all : c.loop-q.q ≡ length part.lanes.items = omega arith in
     let gone = gone_on plan c.rounds_end-end.ensures.lawful part c.requires.belongs c.requires.early old new c.loop-q.q refl all c.loop-q.invariant.moved in
@@ -100,7 +126,13 @@ returns-clause-others c =
     let part = c.args.self.now in
     let plan = c.args.plan.now in
     let old : Moving = record { lanes = part.lanes.items; told = c.args.told.now; leaves = c.args.leaves.now; count = 0; end = stop_of plan } in
-    let new : Moving = record { lanes = c.loop-q.self.lanes.items; told = c.loop-q.told; leaves = c.loop-q.leaves; count = c.loop-q.count; end = c.loop-q.end } in
+    let new : Moving = record {
+      lanes = c.loop-q.self.lanes.items;
+      told = c.loop-q.told;
+      leaves = c.loop-q.leaves;
+      count = c.loop-q.count;
+      end = c.loop-q.end;
+    } in
     let long = c.loop-q.invariant.moved.long in
     let all : c.loop-q.q ≡ length part.lanes.items = omega arith in
     let gone = gone_on plan c.rounds_end-end.ensures.lawful part c.requires.belongs c.requires.early old new c.loop-q.q refl all c.loop-q.invariant.moved in

@@ -24,7 +24,8 @@ returns-in_err-append-clause-earlier c = IfOk-from_err _ _ c.from_residual-in_er
 
 pub returns-in_err-reserve-clause-err : goal.returns-in_err-reserve-clause-err
 returns-in_err-reserve-clause-err c = MatchResult-from_err _ _ _ c.from_residual.ensures.0
-    (λ _. ap (λ (nodes : List Node). let g : Growth = record { nodes = nodes; packs = c.self.inside.packs.items } in g) c.in_err-reserve.ensures.items ∙ c.self.view_is)
+    (λ _. ap (λ (nodes : List Node). let g : Growth = record { nodes = nodes; packs = c.self.inside.packs.items } in g) c.in_err-reserve.ensures.items
+    ∙ c.self.view_is)
 
 pub overflow_cast-number : goal.overflow_cast-number
 overflow_cast-number c =
@@ -56,7 +57,8 @@ returns-clause-nodes c =
     let old = c.in_ok-reserve.ensures.items ∙ ap (λ (g : Growth). g.nodes) c.self.view_is in
     c.in_ok-append.ensures.items
     ∙ ap (λ (xs : List Node). c.mark_duals.new.nodes.items ++ xs) (ap (λ (g : Growth). g.nodes) c.level.view_is)
-    ∙ ap (λ (xs : List Node). xs ++ c.args.level.nodes) (c.mark_duals.ensures.nodes ∙ ap (λ (xs : List Node). with_duals c.len-number.result xs c.reserve.new.self.items) level
+    ∙ ap (λ (xs : List Node). xs ++ c.args.level.nodes) (c.mark_duals.ensures.nodes ∙ ap (λ (xs : List Node). with_duals c.len-number.result xs
+    c.reserve.new.self.items) level
     ∙ ap (λ (n : ℕ). with_duals n c.args.level.nodes c.reserve.new.self.items) number ∙ ap (with_duals (length c.args.self.now.nodes) c.args.level.nodes) old)
 
 pub returns-in_err-append-clause-err : goal.returns-in_err-append-clause-err

@@ -13,18 +13,24 @@ lower_of-requires c = λ i l.
 
 pub raise-requires-clause-few : goal.raise-requires-clause-few
 raise-requires-clause-few c =
-    let found : c.deref.result.now ≡ lower_packs c.args.self.now = c.deref.ensures.value ∙ c.in_ok-packs.ensures ∙ ap₂ (λ ns ps. filter (λ p. nat_lt (node_in ns p).rate c.self.inside.scale) ps) c.nodes.ensures c.packs.ensures ∙ ap lower_packs c.self.view_is in
-    (lower_have c.self.inside.lower.items c.args.self.now c.deref.result.now (subst (IsMaker c.self.inside.lower.items) c.self.view_is c.self.invariant) found).few
+    let found : c.deref.result.now ≡ lower_packs c.args.self.now = c.deref.ensures.value ∙ c.in_ok-packs.ensures
+    ∙ ap₂ (λ ns ps. filter (λ p. nat_lt (node_in ns p).rate c.self.inside.scale) ps) c.nodes.ensures c.packs.ensures ∙ ap lower_packs c.self.view_is in
+    (lower_have c.self.inside.lower.items c.args.self.now c.deref.result.now (subst (IsMaker c.self.inside.lower.items) c.self.view_is c.self.invariant)
+    found).few
 
 pub raise-requires-clause-packs : goal.raise-requires-clause-packs
 raise-requires-clause-packs c =
-    let found : c.deref.result.now ≡ lower_packs c.args.self.now = c.deref.ensures.value ∙ c.in_ok-packs.ensures ∙ ap₂ (λ ns ps. filter (λ p. nat_lt (node_in ns p).rate c.self.inside.scale) ps) c.nodes.ensures c.packs.ensures ∙ ap lower_packs c.self.view_is in
-    (lower_have c.self.inside.lower.items c.args.self.now c.deref.result.now (subst (IsMaker c.self.inside.lower.items) c.self.view_is c.self.invariant) found).nodes
+    let found : c.deref.result.now ≡ lower_packs c.args.self.now = c.deref.ensures.value ∙ c.in_ok-packs.ensures
+    ∙ ap₂ (λ ns ps. filter (λ p. nat_lt (node_in ns p).rate c.self.inside.scale) ps) c.nodes.ensures c.packs.ensures ∙ ap lower_packs c.self.view_is in
+    (lower_have c.self.inside.lower.items c.args.self.now c.deref.result.now (subst (IsMaker c.self.inside.lower.items) c.self.view_is c.self.invariant)
+    found).nodes
 
 pub raise-requires-clause-rates : goal.raise-requires-clause-rates
 raise-requires-clause-rates c =
-    let found : c.deref.result.now ≡ lower_packs c.args.self.now = c.deref.ensures.value ∙ c.in_ok-packs.ensures ∙ ap₂ (λ ns ps. filter (λ p. nat_lt (node_in ns p).rate c.self.inside.scale) ps) c.nodes.ensures c.packs.ensures ∙ ap lower_packs c.self.view_is in
-    (lower_have c.self.inside.lower.items c.args.self.now c.deref.result.now (subst (IsMaker c.self.inside.lower.items) c.self.view_is c.self.invariant) found).rates
+    let found : c.deref.result.now ≡ lower_packs c.args.self.now = c.deref.ensures.value ∙ c.in_ok-packs.ensures
+    ∙ ap₂ (λ ns ps. filter (λ p. nat_lt (node_in ns p).rate c.self.inside.scale) ps) c.nodes.ensures c.packs.ensures ∙ ap lower_packs c.self.view_is in
+    (lower_have c.self.inside.lower.items c.args.self.now c.deref.result.now (subst (IsMaker c.self.inside.lower.items) c.self.view_is c.self.invariant)
+    found).rates
 
 pub returns-in_err-packs-clause-ok : goal.returns-in_err-packs-clause-ok
 returns-in_err-packs-clause-ok c = IfOk-from_err _ _ c.from_residual.ensures.0
@@ -36,11 +42,14 @@ pub raise-requires-clause-few_levels : goal.raise-requires-clause-few_levels
 raise-requires-clause-few_levels c = c.requires.few_levels
 
 pub raise-requires-clause-homes : goal.raise-requires-clause-homes
-raise-requires-clause-homes c = let found : c.deref.result.now ≡ lower_packs c.args.self.now = c.deref.ensures.value ∙ c.in_ok-packs.ensures ∙ ap₂ (λ ns ps. filter (λ p. nat_lt (node_in ns p).rate c.self.inside.scale) ps) c.nodes.ensures c.packs.ensures ∙ ap lower_packs c.self.view_is in c.requires.homes ∙ ap length (sym found)
+raise-requires-clause-homes c = let found : c.deref.result.now ≡ lower_packs c.args.self.now = c.deref.ensures.value ∙ c.in_ok-packs.ensures
+    ∙ ap₂ (λ ns ps. filter (λ p. nat_lt (node_in ns p).rate c.self.inside.scale) ps) c.nodes.ensures c.packs.ensures ∙ ap lower_packs c.self.view_is in
+    c.requires.homes ∙ ap length (sym found)
 
 pub returns-clause-ok : goal.returns-clause-ok
 returns-clause-ok c =
-    let found : c.deref.result.now ≡ lower_packs c.args.self.now = c.deref.ensures.value ∙ c.in_ok-packs.ensures ∙ ap₂ (λ ns ps. filter (λ p. nat_lt (node_in ns p).rate c.self.inside.scale) ps) c.nodes.ensures c.packs.ensures ∙ ap lower_packs c.self.view_is in
+    let found : c.deref.result.now ≡ lower_packs c.args.self.now = c.deref.ensures.value ∙ c.in_ok-packs.ensures
+    ∙ ap₂ (λ ns ps. filter (λ p. nat_lt (node_in ns p).rate c.self.inside.scale) ps) c.nodes.ensures c.packs.ensures ∙ ap lower_packs c.self.view_is in
     subst (λ (ps : List ℕ). OnOk c.raise.result (c.raise.new.self ≡ lifted ps c.args.homes.now c.args.self.now)) found c.raise.ensures.ok
 
 pub returns-clause-err : goal.returns-clause-err

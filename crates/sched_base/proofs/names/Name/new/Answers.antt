@@ -18,7 +18,11 @@ pub slice_bounds-bytes-end : goal.slice_bounds-bytes-end
 slice_bounds-bytes-end c = short c.args.name.now c.requires
 
 pub invariant_of-result : goal.invariant_of-result
-invariant_of-result c = (short c.args.name.now c.requires, ap is_lawful_name (kept c.args.name.now c.copy_from_slice.new.self _ c.copy_from_slice.ensures.after) ∙ c.requires)
+invariant_of-result c = (
+  short c.args.name.now c.requires,
+  ap is_lawful_name (kept c.args.name.now c.copy_from_slice.new.self _
+      c.copy_from_slice.ensures.after) ∙ c.requires,
+)
 
 pub returns : goal.returns
 returns c = kept c.args.name.now c.copy_from_slice.new.self _ c.copy_from_slice.ensures.after

@@ -12,5 +12,12 @@ invariant_of-self-2 c =
     rw c.in_ok-push.ensures.items (IsLawful-push seen
     (record { name = c.new.result; work = c.args.work; period = c.args.period; offset = c.args.offset })
     c.self.invariant room
-    (record { name = rw c.new.ensures c.requires.lawful; some_work = c.requires.some_work; work_fits = c.requires.work_fits; period_fits = c.requires.period_fits; offset_fits = c.requires.offset_fits })
+    (record {
+      name = rw c.new.ensures c.requires.lawful;
+      some_work = c.requires.some_work;
+      work_fits = c.requires.work_fits;
+      period_fits =
+          c.requires.period_fits;
+      offset_fits = c.requires.offset_fits;
+    })
     (rw c.new.ensures free))

@@ -13,14 +13,18 @@ returns-in_err-push c = IfOk-from_err _ _ c.from_residual.ensures.0
 
 pub invariant_of-result : goal.invariant_of-result
 invariant_of-result c =
-    let same : c.loop-task.tasks.items ≡ c.self.inside.tasks.items = c.loop-task.invariant ∙ take_all c.loop-task.task-index c.deref-task-items.result.now c.loop-task-test.false ∙ c.deref-task-items.ensures.value in
-    let with_tasks : List declared.Task → SetContents = λ tasks. record { processors = c.self.inside.processors; horizon = c.self.inside.horizon; tasks = tasks } in
+    let same : c.loop-task.tasks.items ≡ c.self.inside.tasks.items = c.loop-task.invariant ∙ take_all c.loop-task.task-index c.deref-task-items.result.now
+    c.loop-task-test.false ∙ c.deref-task-items.ensures.value in
+    let with_tasks : List declared.Task → SetContents = λ tasks. record
+    { processors = c.self.inside.processors; horizon = c.self.inside.horizon; tasks = tasks } in
     subst (λ (tasks : List declared.Task). IsLawful (with_tasks tasks)) (sym same) c.self.invariant
 
 pub returns : goal.returns
 returns c =
-    let same : c.loop-task.tasks.items ≡ c.self.inside.tasks.items = c.loop-task.invariant ∙ take_all c.loop-task.task-index c.deref-task-items.result.now c.loop-task-test.false ∙ c.deref-task-items.ensures.value in
-    let with_tasks : List declared.Task → SetContents = λ tasks. record { processors = c.self.inside.processors; horizon = c.self.inside.horizon; tasks = tasks } in
+    let same : c.loop-task.tasks.items ≡ c.self.inside.tasks.items = c.loop-task.invariant ∙ take_all c.loop-task.task-index c.deref-task-items.result.now
+    c.loop-task-test.false ∙ c.deref-task-items.ensures.value in
+    let with_tasks : List declared.Task → SetContents = λ tasks. record
+    { processors = c.self.inside.processors; horizon = c.self.inside.horizon; tasks = tasks } in
     ap with_tasks same ∙ c.self.view_is
 
 pub loop-task-preserved : goal.loop-task-preserved

@@ -19,7 +19,8 @@ loop-p-preserved c =
 
 pub invariant_of-result : goal.invariant_of-result
 invariant_of-result c =
-    held_new c.in_ok-ends.ends c.loop-p.lanes.items c.loop-p._p c.args.rounds c.in_ok-ends.ensures c.loop-p.invariant.count (omega arith) c.loop-p.invariant.blank c.loop-p.invariant.reserved
+    held_new c.in_ok-ends.ends c.loop-p.lanes.items c.loop-p._p c.args.rounds c.in_ok-ends.ensures c.loop-p.invariant.count (omega arith)
+    c.loop-p.invariant.blank c.loop-p.invariant.reserved
 
 pub returns-clause-none : goal.returns-clause-none
 returns-clause-none c =

@@ -7,15 +7,18 @@ use Rattle.sched_base.proofs.ColumnLemmas.{within_lanes, within_ends, row_is_hel
 use Rattle.sched_base.proofs.tables.RowTable.row.Goals as goal
 
 pub start-requires : goal.start-requires
-start-requires c = within_ends c.self.inside.ends.ends c.self.inside.lanes.items c.args.self.now.lanes (ap (λ (t : Table). t.lanes) c.self.view_is) c.args.k c.self.invariant.filled c.requires.round
+start-requires c = within_ends c.self.inside.ends.ends c.self.inside.lanes.items c.args.self.now.lanes (ap (λ (t : Table). t.lanes) c.self.view_is) c.args.k
+    c.self.invariant.filled c.requires.round
 
 pub at-requires : goal.at-requires
-at-requires c = within_ends c.self.inside.ends.ends c.self.inside.lanes.items c.args.self.now.lanes (ap (λ (t : Table). t.lanes) c.self.view_is) c.args.k c.self.invariant.filled c.requires.round
+at-requires c = within_ends c.self.inside.ends.ends c.self.inside.lanes.items c.args.self.now.lanes (ap (λ (t : Table). t.lanes) c.self.view_is) c.args.k
+    c.self.invariant.filled c.requires.round
 
 pub index-requires : goal.index-requires
 index-requires c =
     let lanes = c.self.inside.lanes in
-    let here = within_lanes c.self.inside.ends.ends lanes.items c.args.self.now.lanes (ap (λ (t : Table). t.lanes) c.self.view_is) c.args.p c.requires.processor in
+    let here = within_lanes c.self.inside.ends.ends lanes.items c.args.self.now.lanes (ap (λ (t : Table). t.lanes) c.self.view_is) c.args.p
+    c.requires.processor in
     let ok = lanes.ok.0 in
     omega (arith, here, ok)
 
@@ -41,4 +44,5 @@ returns-clause-value c =
     let here = within_lanes ends lanes c.args.self.now.lanes are c.args.p c.requires.processor in
     let row : Row = record { processor = c.args.p; leaf = c.at-2.result; start = c.start.result; end = c.at.result } in
     ap (λ ls. slice_get (lane_of ls c.args.p) c.args.k) (sym are)
-    ∙ row_is_held ends lanes c.args.p c.args.k c.index.result.now row (there lanes c.args.p c.index.result.now here c.index.ensures) refl c.start.ensures c.at.ensures c.at-2.ensures
+    ∙ row_is_held ends lanes c.args.p c.args.k c.index.result.now row (there lanes c.args.p c.index.result.now here c.index.ensures) refl c.start.ensures
+    c.at.ensures c.at-2.ensures

@@ -25,6 +25,7 @@ returns-clause-job g c =
 
 pub returns-clause-rest : goal.returns-clause-rest
 returns-clause-rest g c =
-    let P : Option g.row.J.Denot → JobPlaces g.row.J.Denot = λ x. record { places = slice_set c.self.inside.places.items c.args.i x; room = c.self.inside.room } in
+    let P : Option g.row.J.Denot → JobPlaces g.row.J.Denot =
+    λ x. record { places = slice_set c.self.inside.places.items c.args.i x; room = c.self.inside.room } in
     let Q : JobPlaces g.row.J.Denot → JobPlaces g.row.J.Denot = λ s. record { places = slice_set s.places c.args.i None; room = s.room } in
     ap P c.take.ensures.after ∙ ap Q c.self.view_is

@@ -29,7 +29,8 @@ pub returns-then-not-is_empty-clause-bytes : goal.returns-then-not-is_empty-clau
 returns-then-not-is_empty-clause-bytes c = ap (λ (s : SinkHeld). s.taken) c.self.view_is
 
 pub returns-then-not-is_empty-clause-cause : goal.returns-then-not-is_empty-clause-cause
-returns-then-not-is_empty-clause-cause c = fault_cause _ _ _ _ (ap (λ (s : SinkHeld). s.faults) c.self.view_is) c.fault-then-not-is_empty.ensures.later c.fault-then-not-is_empty.ensures.rose
+returns-then-not-is_empty-clause-cause c = fault_cause _ _ _ _ (ap (λ (s : SinkHeld). s.faults) c.self.view_is) c.fault-then-not-is_empty.ensures.later
+    c.fault-then-not-is_empty.ensures.rose
 
 pub returns-then-not-is_empty-clause-calls : goal.returns-then-not-is_empty-clause-calls
 returns-then-not-is_empty-clause-calls c = c.call_fails.ensures.calls ∙ ap (λ (s : SinkHeld). next_call s.calls) c.self.view_is
@@ -66,12 +67,25 @@ returns-then-not-is_empty-clause-failed c =
     (λ _. inr (full, omega (arith, some)), λ _. refl)
 
 pub unwrap-requires : goal.unwrap-requires
-unwrap-requires c = c.extend_from_slice.ensures.succeeds (omega (arith, c.min-count.ensures, c.len.ensures, c.self.invariant.0, c.self.invariant.1, length-take {A = ℕ}))
+unwrap-requires c = c.extend_from_slice.ensures.succeeds (omega (
+  arith,
+  c.min-count.ensures,
+  c.len.ensures,
+  c.self.invariant.0,
+  c.self.invariant.1,
+  length-take {A = ℕ},
+))
 
 pub invariant_of-self-2 : goal.invariant_of-self-2
 invariant_of-self-2 c =
-    let grown = rw c.unwrap.ensures at c.extend_from_slice.ensures.len in
-    (omega (arith, grown, c.min-count.ensures, c.len.ensures, c.self.invariant.0, length-take {A = ℕ}), omega (arith, c.extend_from_slice.ensures.capacity, c.self.invariant.1))
+    let grown = rw c.unwrap.ensures at c.extend_from_slice.ensures.len in (
+      omega (arith, grown, c.min-count.ensures, c.len.ensures, c.self.invariant.0, length-take {A = ℕ}),
+      omega (
+        arith,
+        c.extend_from_slice.ensures.capacity,
+        c.self.invariant.1,
+      ),
+    )
 
 pub returns-clause-bound : goal.returns-clause-bound
 returns-clause-bound c = omega (arith, c.min-count.ensures)
@@ -94,7 +108,8 @@ returns-clause-count c =
 
 pub returns-clause-failed : goal.returns-clause-failed
 returns-clause-failed c =
-    let listed = listed_is _ _ _ _ (c.deref.ensures.value ∙ ap (λ (s : SinkHeld). s.fails) c.self.view_is) c.call_fails.ensures.listed ∙ c.if-call_fails.false in
+    let listed = listed_is _ _ _ _ (c.deref.ensures.value ∙ ap (λ (s : SinkHeld). s.fails) c.self.view_is) c.call_fails.ensures.listed
+    ∙ c.if-call_fails.false in
     let left = ap room_left c.self.view_is in
     let roomy : room_left c.args.self.now ≡ 0 → 0 < length c.args.piece.now → ⊥ = elim c.else-room-eq0.branch [
       | else-room-eq0-via-then-room-eq0+else-not-is_empty w ↦ λ full some. absurd (omega (arith, some, eqb-true _ _ (sym w.if-not-is_empty.ensures)))

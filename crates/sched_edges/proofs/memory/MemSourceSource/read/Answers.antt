@@ -18,7 +18,8 @@ returns-then-call_fails-clause-fails c = ap (λ (s : SourceHeld). s.fails) c.sel
 
 pub returns-then-call_fails-clause-failed : goal.returns-then-call_fails-clause-failed
 returns-then-call_fails-clause-failed c =
-    let listed = listed_is _ _ _ _ (c.deref.ensures.value ∙ ap (λ (s : SourceHeld). s.fails) c.self.view_is) c.call_fails.ensures.listed ∙ c.if-call_fails.true in
+    let listed = listed_is _ _ _ _ (c.deref.ensures.value ∙ ap (λ (s : SourceHeld). s.fails) c.self.view_is) c.call_fails.ensures.listed
+    ∙ c.if-call_fails.true in
     (λ _. listed, λ _. refl)
 
 pub returns-clause-cause : goal.returns-clause-cause
@@ -32,7 +33,8 @@ returns-clause-fails c = ap (λ (s : SourceHeld). s.fails) c.self.view_is
 
 pub returns-clause-failed : goal.returns-clause-failed
 returns-clause-failed c =
-    let listed = listed_is _ _ _ _ (c.deref.ensures.value ∙ ap (λ (s : SourceHeld). s.fails) c.self.view_is) c.call_fails.ensures.listed ∙ c.if-call_fails.false in
+    let listed = listed_is _ _ _ _ (c.deref.ensures.value ∙ ap (λ (s : SourceHeld). s.fails) c.self.view_is) c.call_fails.ensures.listed
+    ∙ c.if-call_fails.false in
     (λ no. absurd (both_ways false refl no), λ some. sym listed ∙ some)
 
 pub invariant_of-self : goal.invariant_of-self
@@ -46,7 +48,8 @@ returns-clause-bound c = front_fits _ _ _ _ c.copy_front-count.ensures.count c.c
 
 pub returns-clause-bytes : goal.returns-clause-bytes
 returns-clause-bytes c =
-    front_given _ _ _ _ _ _ _ (ap (λ (s : SourceHeld). s.left) c.self.view_is) c.deref-2.ensures.value c.copy_front-count.ensures.count c.copy_front-count.ensures.copied
+    front_given _ _ _ _ _ _ _ (ap (λ (s : SourceHeld). s.left) c.self.view_is) c.deref-2.ensures.value c.copy_front-count.ensures.count
+    c.copy_front-count.ensures.copied
     c.copy_front-count.auto.buffer
 
 pub returns-clause-count : goal.returns-clause-count

@@ -9,7 +9,8 @@ pub returns-clause-bound : goal.returns-clause-bound
 returns-clause-bound c = front_fits _ _ _ _ c.copy_front-count.ensures.count c.copy_front-count.auto.buffer
 
 pub returns-clause-bytes : goal.returns-clause-bytes
-returns-clause-bytes c = front_given _ _ _ _ _ _ _ c.self.view_is c.deref.ensures.value c.copy_front-count.ensures.count c.copy_front-count.ensures.copied c.copy_front-count.auto.buffer
+returns-clause-bytes c = front_given _ _ _ _ _ _ _ c.self.view_is c.deref.ensures.value c.copy_front-count.ensures.count c.copy_front-count.ensures.copied
+    c.copy_front-count.auto.buffer
 
 pub returns-clause-cause : goal.returns-clause-cause
 returns-clause-cause c = no_cause 0 0 _ refl

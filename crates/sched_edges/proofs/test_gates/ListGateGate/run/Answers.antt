@@ -29,7 +29,8 @@ pub returns-then-len-self-clause-err : goal.returns-then-len-self-clause-err
 returns-then-len-self-clause-err c = ap (λ (s : GateHeld). Some s.ran) c.self.view_is
 
 pub returns-then-len-self-clause-cause : goal.returns-then-len-self-clause-cause
-returns-then-len-self-clause-cause c = fault_cause _ _ _ _ (ap (λ (s : GateHeld). s.faults) c.self.view_is) c.fault-then-len-self.ensures.later c.fault-then-len-self.ensures.rose
+returns-then-len-self-clause-cause c = fault_cause _ _ _ _ (ap (λ (s : GateHeld). s.faults) c.self.view_is) c.fault-then-len-self.ensures.later
+    c.fault-then-len-self.ensures.rose
 
 pub returns-then-len-self-clause-calls : goal.returns-then-len-self-clause-calls
 returns-then-len-self-clause-calls c = c.call_fails.ensures.calls ∙ ap (λ (s : GateHeld). next_call s.calls) c.self.view_is
@@ -78,7 +79,8 @@ returns-clause-ok c = ap (λ ran. Some ran) (c.push_reserved.ensures.items ∙ a
 
 pub returns-clause-failed : goal.returns-clause-failed
 returns-clause-failed c =
-    let listed = listed_is _ _ _ _ (c.deref.ensures.value ∙ ap (λ (s : GateHeld). s.fails) c.self.view_is) c.call_fails.ensures.listed ∙ c.if-call_fails.false in
+    let listed = listed_is _ _ _ _ (c.deref.ensures.value ∙ ap (λ (s : GateHeld). s.fails) c.self.view_is) c.call_fails.ensures.listed
+    ∙ c.if-call_fails.false in
     let left = ap rows_left c.self.view_is in (
       λ no. absurd (both_ways false refl no),
       λ why. elim why [ inl is ↦ sym listed ∙ is | inr full ↦ absurd (omega (arith, left, full, c.if-len-self.false, c.len.ensures, c.self.inside.rows.ok.0)) ],

@@ -36,7 +36,8 @@ returns-clause-cause c = no_cause _ _ _ (ap (λ (s : FailHeld). s.faults) c.self
 
 pub returns-clause-failed : goal.returns-clause-failed
 returns-clause-failed c =
-    let listed = listed_is _ _ _ _ (c.deref.ensures.value ∙ ap (λ (s : FailHeld). s.fails) c.self.view_is) c.call_fails.ensures.listed ∙ c.if-call_fails.false in
+    let listed = listed_is _ _ _ _ (c.deref.ensures.value ∙ ap (λ (s : FailHeld). s.fails) c.self.view_is) c.call_fails.ensures.listed
+    ∙ c.if-call_fails.false in
     (λ no. absurd (both_ways false refl no), λ some. sym listed ∙ some)
 
 pub returns-clause-calls : goal.returns-clause-calls

@@ -9,7 +9,8 @@ give_at-requires-clause-ahead c =
     subst₂ (λ (rs : List Bool) (ms : List ℕ). AreAhead c.self.inside.tick rs ms) (sym c.deref.ensures.value) (sym c.deref_mut.ensures.value) c.self.invariant
 
 pub give_at-requires-clause-node : goal.give_at-requires-clause-node
-give_at-requires-clause-node c = subst (λ (rs : List Bool). c.args.n.0 < length rs) (sym (c.deref.ensures.value ∙ ap (λ (d : DueContents). d.runs) c.self.view_is)) c.requires.node
+give_at-requires-clause-node c = subst (λ (rs : List Bool). c.args.n.0 < length rs) (sym (c.deref.ensures.value ∙ ap (λ (d : DueContents). d.runs)
+    c.self.view_is)) c.requires.node
 
 pub give_at-requires-clause-fits : goal.give_at-requires-clause-fits
 give_at-requires-clause-fits c = subst (λ (d : DueContents). d.tick + c.args.due < 2 ^ 128) (sym c.self.view_is) c.requires.fits
@@ -25,7 +26,9 @@ returns-clause-tick c = ap (λ (d : DueContents). d.tick) c.self.view_is
 pub returns-clause-remains : goal.returns-clause-remains
 returns-clause-remains c =
     let marks = written c.self.inside.marks c.give_at.new.marks (c.give_at.auto.marks ∙ ap (λ (xs : List ℕ). length xs) c.deref_mut.ensures.value) in
-    ap₂ (λ (rs : List Bool) (ms : List ℕ). remains_by c.self.inside.tick rs ms) (sym c.deref.ensures.value) marks ∙ c.give_at.ensures.remains ∙ ap (λ (ys : List ℕ). set ys c.args.n.0 c.args.due) (ap₂ (λ (rs : List Bool) (ms : List ℕ). remains_by c.self.inside.tick rs ms) c.deref.ensures.value c.deref_mut.ensures.value ∙ ap (λ (d : DueContents). d.remains) c.self.view_is)
+    ap₂ (λ (rs : List Bool) (ms : List ℕ). remains_by c.self.inside.tick rs ms) (sym c.deref.ensures.value) marks ∙ c.give_at.ensures.remains
+    ∙ ap (λ (ys : List ℕ). set ys c.args.n.0 c.args.due) (ap₂ (λ (rs : List Bool) (ms : List ℕ). remains_by c.self.inside.tick rs ms)
+    c.deref.ensures.value c.deref_mut.ensures.value ∙ ap (λ (d : DueContents). d.remains) c.self.view_is)
 
 pub returns-clause-runs : goal.returns-clause-runs
 returns-clause-runs c = ap (λ (d : DueContents). d.runs) c.self.view_is

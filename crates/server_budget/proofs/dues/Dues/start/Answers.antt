@@ -6,18 +6,22 @@ use Rattle.server_budget.proofs.dues.Dues.start.Goals as goal
 
 pub start_at-requires-clause-ahead : goal.start_at-requires-clause-ahead
 start_at-requires-clause-ahead c =
-    subst₂ (λ (rs : List Bool) (ms : List ℕ). AreAhead c.self.inside.tick rs ms) (sym c.deref_mut-2.ensures.value) (sym c.deref_mut.ensures.value) c.self.invariant
+    subst₂ (λ (rs : List Bool) (ms : List ℕ). AreAhead c.self.inside.tick rs ms) (sym c.deref_mut-2.ensures.value) (sym c.deref_mut.ensures.value)
+    c.self.invariant
 
 pub start_at-requires-clause-node : goal.start_at-requires-clause-node
-start_at-requires-clause-node c = subst (λ (rs : List Bool). c.args.n.0 < length rs) (sym (c.deref_mut-2.ensures.value ∙ ap (λ (d : DueContents). d.runs) c.self.view_is)) c.requires.node
+start_at-requires-clause-node c = subst (λ (rs : List Bool). c.args.n.0 < length rs) (sym (c.deref_mut-2.ensures.value ∙ ap (λ (d : DueContents). d.runs)
+    c.self.view_is)) c.requires.node
 
 pub start_at-requires-clause-rests : goal.start_at-requires-clause-rests
-start_at-requires-clause-rests c = subst (λ (rs : List Bool). get_or rs c.args.n.0 false ≡ false) (sym (c.deref_mut-2.ensures.value ∙ ap (λ (d : DueContents). d.runs) c.self.view_is)) c.requires.rests
+start_at-requires-clause-rests c = subst (λ (rs : List Bool). get_or rs c.args.n.0 false ≡ false) (sym (c.deref_mut-2.ensures.value
+    ∙ ap (λ (d : DueContents). d.runs) c.self.view_is)) c.requires.rests
 
 pub start_at-requires-clause-fits : goal.start_at-requires-clause-fits
 start_at-requires-clause-fits c =
     let fits = subst (λ (d : DueContents). d.tick + get_or d.remains c.args.n.0 0 < 2 ^ 128) (sym c.self.view_is) c.requires.fits in
-    subst₂ (λ (rs : List Bool) (ms : List ℕ). c.self.inside.tick + get_or (remains_by c.self.inside.tick rs ms) c.args.n.0 0 < 2 ^ 128) (sym c.deref_mut-2.ensures.value) (sym c.deref_mut.ensures.value) fits
+    subst₂ (λ (rs : List Bool) (ms : List ℕ). c.self.inside.tick + get_or (remains_by c.self.inside.tick rs ms) c.args.n.0 0 < 2 ^ 128)
+    (sym c.deref_mut-2.ensures.value) (sym c.deref_mut.ensures.value) fits
 
 pub invariant_of-self : goal.invariant_of-self
 invariant_of-self c =
@@ -32,9 +36,12 @@ pub returns-clause-remains : goal.returns-clause-remains
 returns-clause-remains c =
     let marks = written c.self.inside.marks c.start_at.new.marks (c.start_at.auto.marks ∙ ap (λ (xs : List ℕ). length xs) c.deref_mut.ensures.value) in
     let runs = written c.self.inside.runs c.start_at.new.runs (c.start_at.auto.runs ∙ ap (λ (xs : List Bool). length xs) c.deref_mut-2.ensures.value) in
-    ap₂ (λ (rs : List Bool) (ms : List ℕ). remains_by c.self.inside.tick rs ms) runs marks ∙ c.start_at.ensures.remains ∙ ap₂ (λ (rs : List Bool) (ms : List ℕ). remains_by c.self.inside.tick rs ms) c.deref_mut-2.ensures.value c.deref_mut.ensures.value ∙ ap (λ (d : DueContents). d.remains) c.self.view_is
+    ap₂ (λ (rs : List Bool) (ms : List ℕ). remains_by c.self.inside.tick rs ms) runs marks ∙ c.start_at.ensures.remains
+    ∙ ap₂ (λ (rs : List Bool) (ms : List ℕ). remains_by c.self.inside.tick rs ms) c.deref_mut-2.ensures.value c.deref_mut.ensures.value
+    ∙ ap (λ (d : DueContents). d.remains) c.self.view_is
 
 pub returns-clause-runs : goal.returns-clause-runs
 returns-clause-runs c =
     let runs = written c.self.inside.runs c.start_at.new.runs (c.start_at.auto.runs ∙ ap (λ (xs : List Bool). length xs) c.deref_mut-2.ensures.value) in
-    runs ∙ c.start_at.ensures.runs ∙ ap (λ (rs : List Bool). set rs c.args.n.0 true) (c.deref_mut-2.ensures.value ∙ ap (λ (d : DueContents). d.runs) c.self.view_is)
+    runs ∙ c.start_at.ensures.runs ∙ ap (λ (rs : List Bool). set rs c.args.n.0 true) (c.deref_mut-2.ensures.value ∙ ap (λ (d : DueContents). d.runs)
+    c.self.view_is)

@@ -6,13 +6,16 @@ use Rattle.server_budget.proofs.dues.Dues.stop.Goals as goal
 
 pub stop_at-requires-clause-ahead : goal.stop_at-requires-clause-ahead
 stop_at-requires-clause-ahead c =
-    subst₂ (λ (rs : List Bool) (ms : List ℕ). AreAhead c.self.inside.tick rs ms) (sym c.deref_mut-2.ensures.value) (sym c.deref_mut.ensures.value) c.self.invariant
+    subst₂ (λ (rs : List Bool) (ms : List ℕ). AreAhead c.self.inside.tick rs ms) (sym c.deref_mut-2.ensures.value) (sym c.deref_mut.ensures.value)
+    c.self.invariant
 
 pub stop_at-requires-clause-node : goal.stop_at-requires-clause-node
-stop_at-requires-clause-node c = subst (λ (rs : List Bool). c.args.n.0 < length rs) (sym (c.deref_mut-2.ensures.value ∙ ap (λ (d : DueContents). d.runs) c.self.view_is)) c.requires.node
+stop_at-requires-clause-node c = subst (λ (rs : List Bool). c.args.n.0 < length rs) (sym (c.deref_mut-2.ensures.value ∙ ap (λ (d : DueContents). d.runs)
+    c.self.view_is)) c.requires.node
 
 pub stop_at-requires-clause-runs : goal.stop_at-requires-clause-runs
-stop_at-requires-clause-runs c = subst (λ (rs : List Bool). get_or rs c.args.n.0 false ≡ true) (sym (c.deref_mut-2.ensures.value ∙ ap (λ (d : DueContents). d.runs) c.self.view_is)) c.requires.runs
+stop_at-requires-clause-runs c = subst (λ (rs : List Bool). get_or rs c.args.n.0 false ≡ true) (sym (c.deref_mut-2.ensures.value
+    ∙ ap (λ (d : DueContents). d.runs) c.self.view_is)) c.requires.runs
 
 pub invariant_of-self : goal.invariant_of-self
 invariant_of-self c =
@@ -27,9 +30,12 @@ pub returns-clause-remains : goal.returns-clause-remains
 returns-clause-remains c =
     let marks = written c.self.inside.marks c.stop_at.new.marks (c.stop_at.auto.marks ∙ ap (λ (xs : List ℕ). length xs) c.deref_mut.ensures.value) in
     let runs = written c.self.inside.runs c.stop_at.new.runs (c.stop_at.auto.runs ∙ ap (λ (xs : List Bool). length xs) c.deref_mut-2.ensures.value) in
-    ap₂ (λ (rs : List Bool) (ms : List ℕ). remains_by c.self.inside.tick rs ms) runs marks ∙ c.stop_at.ensures.remains ∙ ap₂ (λ (rs : List Bool) (ms : List ℕ). remains_by c.self.inside.tick rs ms) c.deref_mut-2.ensures.value c.deref_mut.ensures.value ∙ ap (λ (d : DueContents). d.remains) c.self.view_is
+    ap₂ (λ (rs : List Bool) (ms : List ℕ). remains_by c.self.inside.tick rs ms) runs marks ∙ c.stop_at.ensures.remains
+    ∙ ap₂ (λ (rs : List Bool) (ms : List ℕ). remains_by c.self.inside.tick rs ms) c.deref_mut-2.ensures.value c.deref_mut.ensures.value
+    ∙ ap (λ (d : DueContents). d.remains) c.self.view_is
 
 pub returns-clause-runs : goal.returns-clause-runs
 returns-clause-runs c =
     let runs = written c.self.inside.runs c.stop_at.new.runs (c.stop_at.auto.runs ∙ ap (λ (xs : List Bool). length xs) c.deref_mut-2.ensures.value) in
-    runs ∙ c.stop_at.ensures.runs ∙ ap (λ (rs : List Bool). set rs c.args.n.0 false) (c.deref_mut-2.ensures.value ∙ ap (λ (d : DueContents). d.runs) c.self.view_is)
+    runs ∙ c.stop_at.ensures.runs ∙ ap (λ (rs : List Bool). set rs c.args.n.0 false) (c.deref_mut-2.ensures.value ∙ ap (λ (d : DueContents). d.runs)
+    c.self.view_is)

@@ -23,8 +23,10 @@ loop-id-preserved g c =
       | in-None w ↦
           let boxed = rw w.expect-in-None.ensures at w.new-in-None.ensures.ok in
           rw w.jobs-is (one_more_made _ _ _ _ c.loop-id.id _ _ _ _ _ c.loop-id.invariant w.add-in-None.ensures.room w.add-in-None.ensures.places
-          (read_made own-1 (own-1.entry at-1-2) at-1-2 refl ℕ (λ e x. e.1.id x) _ _ _ w.into_dyn_box-in-None.ensures.1 ∙ ap (λ j. j.id) (boxed ∙ w.new-job.ensures))
-          (read_made own-1 (own-1.entry at-1-2) at-1-2 refl ℕ (λ e x. e.1.used x) _ _ _ w.into_dyn_box-in-None.ensures.1 ∙ ap (λ j. j.used) (boxed ∙ w.new-job.ensures)))
+          (read_made own-1 (own-1.entry at-1-2) at-1-2 refl ℕ (λ e x. e.1.id x) _ _ _ w.into_dyn_box-in-None.ensures.1 ∙ ap (λ j. j.id) (boxed
+          ∙ w.new-job.ensures))
+          (read_made own-1 (own-1.entry at-1-2) at-1-2 refl ℕ (λ e x. e.1.used x) _ _ _ w.into_dyn_box-in-None.ensures.1 ∙ ap (λ j. j.used) (boxed
+          ∙ w.new-job.ensures)))
     ]
 
 pub perform-told-requires-clause-ready : goal.perform-told-requires-clause-ready

@@ -7,6 +7,7 @@ use Rattle.tests_executions.proofs.books.halts.dismiss.Goals as goal
 
 pub assert_closing-requires : goal.assert_closing-requires
 assert_closing-requires g c = λ t below.
-    let many = c.count.ensures.value ∙ ap (λ (s : SetContents). length s.tasks) c.set.ensures.value ∙ ap (λ (p : PlanContents). length p.set.tasks) c.plan-2.ensures.value in
+    let many = c.count.ensures.value ∙ ap (λ (s : SetContents). length s.tasks) c.set.ensures.value ∙ ap (λ (p : PlanContents). length p.set.tasks)
+    c.plan-2.ensures.value in
     let job = c.dismiss-closing.ensures.home t (omega (arith, below, many)) in
     (job.0, ap (λ (j : JobPlaces CountHeld). slice_get j.places t) c.dismiss-closing.ensures.jobs ∙ job.1)

@@ -18,7 +18,8 @@ handed-requires g c =
       c.in-Ready.taken,
       t,
       row_out (plan_rows old.plan) (plan_rows now.plan) old.window now.window old.state now.state 0 c.in-Ready.taken
-          (ap (λ (b : BookContents CountHeld). plan_rows b.plan) hands.book) (plan_table now.plan c.plan-lawful.ensures.lawful) follows.reached (ap (λ (b : BookContents CountHeld). b.state) hands.book) c.assert_free.ensures.lane hands.legal,
+          (ap (λ (b : BookContents CountHeld). plan_rows b.plan) hands.book) (plan_table now.plan c.plan-lawful.ensures.lawful) follows.reached
+          (ap (λ (b : BookContents CountHeld). b.state) hands.book) c.assert_free.ensures.lane hands.legal,
       named,
     )
 
@@ -29,5 +30,6 @@ halt-requires-clause-job g c =
     let hands = c.in-Ready.ensures.says in
     let follows = c.log-follows.ensures.follows in
     put_back_fits (plan_rows old.plan) (plan_rows now.plan) old.window now.window old.state now.state 0 c.in-Ready.taken
-    (ap (λ (b : BookContents CountHeld). plan_rows b.plan) hands.book) (plan_table now.plan c.plan-lawful.ensures.lawful) follows.reached (ap (λ (b : BookContents CountHeld). b.state) hands.book) c.assert_free.ensures.lane hands.legal
+    (ap (λ (b : BookContents CountHeld). plan_rows b.plan) hands.book) (plan_table now.plan c.plan-lawful.ensures.lawful) follows.reached
+    (ap (λ (b : BookContents CountHeld). b.state) hands.book) c.assert_free.ensures.lane hands.legal
     _ _ _ g.Q.PostLedger.made c.in-Ready.job hands.ready

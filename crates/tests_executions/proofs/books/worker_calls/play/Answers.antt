@@ -12,5 +12,6 @@ pub lift-second-requires : goal.lift-second-requires
 lift-second-requires g c =
     let seats = rw c.expect-side.ensures at c.«open».ensures.seats in (
       record { lane = 1; posted = 0 },
-      ap (λ xs. slice_get xs 1) c.lift-first.ensures.rest ∙ get-set_other c.expect-side.result.1 0 1 None (λ same. omega (arith, same)) ∙ ap (λ xs. slice_get xs 1) seats ∙ seat_at 2 1 (omega arith),
+      ap (λ xs. slice_get xs 1) c.lift-first.ensures.rest ∙ get-set_other c.expect-side.result.1 0 1 None (λ same. omega (arith, same))
+          ∙ ap (λ xs. slice_get xs 1) seats ∙ seat_at 2 1 (omega arith),
     )

@@ -19,7 +19,8 @@ push_round-requires-clause-round c =
     let is = row_is c.row.result k _ _ c.row.ensures c.from.ensures c.from-in-loop-k.ensures in
     let end : end_of c.loop-k.table.lanes ≡ k = ap end_of c.loop-k.invariant.0 ∙ end_after-steady k in
     let small : k + 1 < 2 ^ 127 = omega arith in
-    subst (λ (r : Row). IsRound (end_of c.loop-k.table.lanes) (r ∷ [])) (sym is) (IsRound-one (end_of c.loop-k.table.lanes) (steady_row k) refl (sym end) (omega arith) small)
+    subst (λ (r : Row). IsRound (end_of c.loop-k.table.lanes) (r ∷ [])) (sym is) (IsRound-one (end_of c.loop-k.table.lanes) (steady_row k) refl (sym end)
+    (omega arith) small)
 
 pub push_round-requires-clause-room : goal.push_round-requires-clause-room
 push_round-requires-clause-room c = let room = c.loop-k.invariant.1 in let below = c.loop-k-test.true in omega arith
@@ -30,6 +31,7 @@ loop-k-preserved c =
     let room = c.loop-k.invariant.1 in
     let left = c.push_round.ensures.room in
     let is = row_is c.row.result c.loop-k.k _ _ c.row.ensures c.from.ensures c.from-in-loop-k.ensures in (
-      rw add-one (c.push_round.ensures.lanes ∙ ap (λ (lanes : List (List Row)). with_round lanes (c.row.result ∷ [])) c.loop-k.invariant.0 ∙ ap (λ (r : Row). with_round (steady_rows c.loop-k.k ∷ []) (r ∷ [])) is),
+      rw add-one (c.push_round.ensures.lanes ∙ ap (λ (lanes : List (List Row)). with_round lanes (c.row.result ∷ [])) c.loop-k.invariant.0
+          ∙ ap (λ (r : Row). with_round (steady_rows c.loop-k.k ∷ []) (r ∷ [])) is),
       omega arith,
     )

@@ -16,4 +16,8 @@ loop-k-preserved c =
       | then-k-i w ↦ (let here : k ≡ i = w.if-k-i.true in w.number-is ∙ sym (ap (λ n. get_or new n 0) here ∙ get_or-set_same xs i c.args.end 0 c.requires))
       | else-k-i w ↦ w.number-is ∙ w.get-number.ensures ∙ sym (get_or-set_other xs i k c.args.end 0 (let there : k ≡ i → ⊥ = w.if-k-i.false in there))
     ]) in
-    c.in_ok-push.ensures.items ∙ ap (λ l. l ++ c.if-k-i.number ∷ []) c.loop-k.invariant ∙ sym (numbers_step new k c.if-k-i.number (omega (arith, within, size)) number)
+    c.in_ok-push.ensures.items ∙ ap (λ l. l ++ c.if-k-i.number ∷ []) c.loop-k.invariant ∙ sym (numbers_step new k c.if-k-i.number (omega (
+      arith,
+      within,
+      size,
+    )) number)

@@ -42,21 +42,24 @@ returns-in-Ends-clause-within c = difference_within _ _
 
 pub returns-in-Ends-clause-stop : goal.returns-in-Ends-clause-stop
 returns-in-Ends-clause-stop c =
-    subst (λ t. StopIs c.args.set.now.tasks c.loop-row.self.rows t stops.Ends) (sym (rest_is c.args.text.now c.loop-row.invariant.0.0 c.loop-row.rest.now c.loop-row.invariant.0.1)) c.in-Ends.ensures
+    subst (λ t. StopIs c.args.set.now.tasks c.loop-row.self.rows t stops.Ends) (sym (rest_is c.args.text.now c.loop-row.invariant.0.0 c.loop-row.rest.now
+    c.loop-row.invariant.0.1)) c.in-Ends.ensures
 
 pub returns-in-Fault-clause-within : goal.returns-in-Fault-clause-within
 returns-in-Fault-clause-within c = difference_within _ _
 
 pub returns-in-Fault-clause-stop : goal.returns-in-Fault-clause-stop
 returns-in-Fault-clause-stop c =
-    subst (λ t. StopIs c.args.set.now.tasks c.loop-row.self.rows t stops.Fault) (sym (rest_is c.args.text.now c.loop-row.invariant.0.0 c.loop-row.rest.now c.loop-row.invariant.0.1)) c.in-Fault.ensures
+    subst (λ t. StopIs c.args.set.now.tasks c.loop-row.self.rows t stops.Fault) (sym (rest_is c.args.text.now c.loop-row.invariant.0.0 c.loop-row.rest.now
+    c.loop-row.invariant.0.1)) c.in-Fault.ensures
 
 pub returns-in-Cut-clause-within : goal.returns-in-Cut-clause-within
 returns-in-Cut-clause-within c = difference_within _ _
 
 pub returns-in-Cut-clause-stop : goal.returns-in-Cut-clause-stop
 returns-in-Cut-clause-stop c =
-    subst (λ t. StopIs c.args.set.now.tasks c.loop-row.self.rows t stops.Cut) (sym (rest_is c.args.text.now c.loop-row.invariant.0.0 c.loop-row.rest.now c.loop-row.invariant.0.1)) c.in-Cut.ensures
+    subst (λ t. StopIs c.args.set.now.tasks c.loop-row.self.rows t stops.Cut) (sym (rest_is c.args.text.now c.loop-row.invariant.0.0 c.loop-row.rest.now
+    c.loop-row.invariant.0.1)) c.in-Cut.ensures
 
 pub next_line-requires-clause-totals : goal.next_line-requires-clause-totals
 next_line-requires-clause-totals c =
@@ -92,7 +95,8 @@ take_short-requires c =
     let so = c.requires.1 in (
       whole,
       subst (λ sums. AreRowsOf tasks whole c.push.new.self sums later) (sym back)
-          (rows_more tasks whole c.loop-row.rest.now later c.loop-row.self.rows c.push.new.self c.in-Row.row old.items new (c.loop-row.invariant.1 whole so) next.0 next.3 items
+          (rows_more tasks whole c.loop-row.rest.now later c.loop-row.self.rows c.push.new.self c.in-Row.row old.items new (c.loop-row.invariant.1 whole so)
+          next.0 next.3 items
           c.add_ticks.ensures long),
     )
 
@@ -115,15 +119,19 @@ loop-row-preserved c =
             ∙ ap (λ t. past ++ t) run.split.1 ∙ sym (append_assoc past run.split.0 c.in_ok-behind-in-Row.behind.now),
       ),
       λ whole so. run.read whole (subst (λ sums. AreRowsOf tasks whole c.push.new.self sums later) (sym back)
-          (rows_more tasks whole c.loop-row.rest.now later c.loop-row.self.rows c.push.new.self c.in-Row.row old.items new (c.loop-row.invariant.1 whole so) next.0 next.3 items
+          (rows_more tasks whole c.loop-row.rest.now later c.loop-row.self.rows c.push.new.self c.in-Row.row old.items new (c.loop-row.invariant.1 whole so)
+          next.0 next.3 items
           c.add_ticks.ensures long)),
     )
 
 pub returns-in-Ends-clause-read : goal.returns-in-Ends-clause-read
-returns-in-Ends-clause-read c = λ whole so. rows_left _ c.args.text.now c.loop-row.invariant.0.0 c.loop-row.rest.now whole _ _ c.loop-row.invariant.0.1 (c.loop-row.invariant.1 whole so)
+returns-in-Ends-clause-read c = λ whole so. rows_left _ c.args.text.now c.loop-row.invariant.0.0 c.loop-row.rest.now whole _ _ c.loop-row.invariant.0.1
+    (c.loop-row.invariant.1 whole so)
 
 pub returns-in-Fault-clause-read : goal.returns-in-Fault-clause-read
-returns-in-Fault-clause-read c = λ whole so. rows_left _ c.args.text.now c.loop-row.invariant.0.0 c.loop-row.rest.now whole _ _ c.loop-row.invariant.0.1 (c.loop-row.invariant.1 whole so)
+returns-in-Fault-clause-read c = λ whole so. rows_left _ c.args.text.now c.loop-row.invariant.0.0 c.loop-row.rest.now whole _ _ c.loop-row.invariant.0.1
+    (c.loop-row.invariant.1 whole so)
 
 pub returns-in-Cut-clause-read : goal.returns-in-Cut-clause-read
-returns-in-Cut-clause-read c = λ whole so. rows_left _ c.args.text.now c.loop-row.invariant.0.0 c.loop-row.rest.now whole _ _ c.loop-row.invariant.0.1 (c.loop-row.invariant.1 whole so)
+returns-in-Cut-clause-read c = λ whole so. rows_left _ c.args.text.now c.loop-row.invariant.0.0 c.loop-row.rest.now whole _ _ c.loop-row.invariant.0.1
+    (c.loop-row.invariant.1 whole so)

@@ -16,5 +16,7 @@ pub returns : goal.returns
 returns c =
     let (feed, grown) = c.in_ok-end_line.ensures.kept in
     let (gone, split) = c.in_ok-stop.ensures.split in
-    λ whole so. last_rows c.args.set.now.tasks whole c.args.window.now.ahead feed c.end_line.new.self.ahead gone c.take_from.new.window.ahead c.args.self.now.rows c.take_from.new.self.rows
-    c.args.self.now.totals.items c.take_from.new.self.totals.items c.in_ok-stop.stop so grown c.in_ok-end_line.ensures.lines c.in_ok-end_line.ensures.ended c.in_ok-stop.ensures.read split c.in_ok-stop.ensures.stop
+    λ whole so. last_rows c.args.set.now.tasks whole c.args.window.now.ahead feed c.end_line.new.self.ahead gone c.take_from.new.window.ahead
+    c.args.self.now.rows c.take_from.new.self.rows
+    c.args.self.now.totals.items c.take_from.new.self.totals.items c.in_ok-stop.stop so grown c.in_ok-end_line.ensures.lines c.in_ok-end_line.ensures.ended
+    c.in_ok-stop.ensures.read split c.in_ok-stop.ensures.stop

@@ -41,8 +41,10 @@ loop-words-preserved c =
     let gone = c.loop-words.invariant.0.0 in (
       (gone ++ says.split.0, c.loop-words.invariant.0.1 ∙ ap (λ t. gone ++ t) says.split.1 ∙ sym (append_assoc gone says.split.0 later)),
       λ whole so. subst (λ sums. AreRowsOf tasks whole c.push.new.self sums later) (sym back)
-          (rows_more tasks whole c.loop-words.rest.now later done c.push.new.self c.in-Some-run_row.row old.items new (c.loop-words.invariant.1 whole so) c.in-Some-run_row.ensures.read
-          (run_taken tasks done c.in-Some-run_row.row c.loop-words.rest.now w says c.in-Some-run_row.ensures.row) c.in_ok-push.ensures c.add_ticks.ensures long),
+          (rows_more tasks whole c.loop-words.rest.now later done c.push.new.self c.in-Some-run_row.row old.items new (c.loop-words.invariant.1 whole so)
+          c.in-Some-run_row.ensures.read
+          (run_taken tasks done c.in-Some-run_row.row c.loop-words.rest.now w says c.in-Some-run_row.ensures.row) c.in_ok-push.ensures c.add_ticks.ensures
+          long),
     )
 
 pub returns-in_default-clause-split : goal.returns-in_default-clause-split

@@ -40,8 +40,10 @@ take_run-requires-in-loop-words c =
     let whole = c.requires.0 in (
       whole,
       subst (λ sums. AreRowsOf tasks whole c.push.new.self sums later) (sym back)
-          (rows_more tasks whole c.loop-words.rest.now later done c.push.new.self c.in-Some-run_row.row old.items new (c.loop-words.invariant.1 whole c.requires.1) c.in-Some-run_row.ensures.read
-          (run_taken tasks done c.in-Some-run_row.row c.loop-words.rest.now w c.in-Some.ensures.says c.in-Some-run_row.ensures.row) c.in_ok-push.ensures c.add_ticks.ensures long),
+          (rows_more tasks whole c.loop-words.rest.now later done c.push.new.self c.in-Some-run_row.row old.items new (c.loop-words.invariant.1 whole
+          c.requires.1) c.in-Some-run_row.ensures.read
+          (run_taken tasks done c.in-Some-run_row.row c.loop-words.rest.now w c.in-Some.ensures.says c.in-Some-run_row.ensures.row) c.in_ok-push.ensures
+          c.add_ticks.ensures long),
     )
 
 pub loop-words-preserved : goal.loop-words-preserved
@@ -59,11 +61,14 @@ loop-words-preserved c =
     let gone = c.loop-words.invariant.0.0 in
     let then = c.in_ok-behind.ensures.split in
     let before : List ℕ = gone ++ says.split.0 in
-    let split : c.args.text.now ≡ before ++ later = c.loop-words.invariant.0.1 ∙ ap (λ t. gone ++ t) says.split.1 ∙ sym (append_assoc gone says.split.0 later) in (
+    let split : c.args.text.now ≡ before ++ later = c.loop-words.invariant.0.1 ∙ ap (λ t. gone ++ t) says.split.1
+    ∙ sym (append_assoc gone says.split.0 later) in (
       (before ++ then.0, split ∙ ap (λ t. before ++ t) then.1 ∙ sym (append_assoc before then.0 c.in_ok-behind.behind.now)),
       λ whole so. c.in_ok-behind.ensures.read whole (subst (λ sums. AreRowsOf tasks whole c.push.new.self sums later) (sym back)
-          (rows_more tasks whole c.loop-words.rest.now later done c.push.new.self c.in-Some-run_row.row old.items new (c.loop-words.invariant.1 whole so) c.in-Some-run_row.ensures.read
-          (run_taken tasks done c.in-Some-run_row.row c.loop-words.rest.now w says c.in-Some-run_row.ensures.row) c.in_ok-push.ensures c.add_ticks.ensures long)),
+          (rows_more tasks whole c.loop-words.rest.now later done c.push.new.self c.in-Some-run_row.row old.items new (c.loop-words.invariant.1 whole so)
+          c.in-Some-run_row.ensures.read
+          (run_taken tasks done c.in-Some-run_row.row c.loop-words.rest.now w says c.in-Some-run_row.ensures.row) c.in_ok-push.ensures c.add_ticks.ensures
+          long)),
       omega (arith, less, c.in_ok-behind.ensures.less, c.loop-words.invariant.2),
     )
 

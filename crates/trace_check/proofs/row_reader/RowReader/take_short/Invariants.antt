@@ -5,7 +5,8 @@ use Rattle.trace_check.proofs.row_reader.RowReader.take_short.Given as goal
 abbrev pub invariant-loop-words : goal.invariant-loop-words
 invariant-loop-words l =
     ((gone : List ℕ) × (l.text ≡ gone ++ l.rest))
-    × ((whole : List ℕ) → AreRowsOf l.set.tasks whole l.fn.self.rows l.fn.self.totals.items l.text → AreRowsOf l.set.tasks whole l.self.rows l.self.totals.items l.rest)
+    × ((whole : List ℕ) → AreRowsOf l.set.tasks whole l.fn.self.rows l.fn.self.totals.items l.text → AreRowsOf l.set.tasks whole l.self.rows
+    l.self.totals.items l.rest)
     × (length l.rest ≤ length l.text)
 
 abbrev pub decreases-loop-words : goal.decreases-loop-words

@@ -26,7 +26,8 @@ returns-then-not-is_written-clause-other c =
     let rest = c.loop-line.rest.now in
     let inv = c.loop-line.invariant in
     λ _. subst (FirstIsOther c.args.ended (left_at c.args.self.now c.loop-line.place)) (sym (rest_is c.args.text.now inv.0.0 rest inv.0.1))
-    (stand_other c.args.ended (left_at c.args.self.now c.loop-line.place) (left_at c.args.self.now c.in-Line.next) rest c.in-Line.line c.in-Some.found.now c.in-Some.later.now c.in-Line.ensures.0 c.in-Some.ensures.some
+    (stand_other c.args.ended (left_at c.args.self.now c.loop-line.place) (left_at c.args.self.now c.in-Line.next) rest c.in-Line.line c.in-Some.found.now
+    c.in-Some.later.now c.in-Line.ensures.0 c.in-Some.ensures.some
     (λ e. (let same = c.if-not-is_written.ensures.1 e in cc)))
 
 pub loop-line-preserved : goal.loop-line-preserved
@@ -40,7 +41,8 @@ loop-line-preserved c =
       (inv.0.0 ++ cut.split.0, inv.0.1 ∙ ap (λ r. inv.0.0 ++ r) cut.split.1 ∙ sym (append_assoc inv.0.0 cut.split.0 c.in-Some.later.now)),
       c.in-Line.ensures.1,
       omega (arith, sum, long),
-      stand_more c.args.ended _ (left_at t c.loop-line.place) (left_at t c.in-Line.next) c.args.text.now c.loop-line.rest.now c.in-Line.line c.in-Some.found.now c.in-Some.later.now c.loop-line.count inv.3 is cut
+      stand_more c.args.ended _ (left_at t c.loop-line.place) (left_at t c.in-Line.next) c.args.text.now c.loop-line.rest.now c.in-Line.line
+          c.in-Some.found.now c.in-Some.later.now c.loop-line.count inv.3 is cut
           (c.if-not-is_written.ensures.0 refl),
     )
 
@@ -73,7 +75,8 @@ pub returns-in-Never-clause-lines : goal.returns-in-Never-clause-lines
 returns-in-Never-clause-lines c =
     let inv = c.loop-line.invariant in
     let t = c.args.self.now in
-    subst (LinesStand c.args.ended (left_at t c.args.place) c.args.text.now c.loop-line.count (left_at t c.loop-line.place)) (sym (rest_is c.args.text.now inv.0.0 c.loop-line.rest.now inv.0.1)) inv.3
+    subst (LinesStand c.args.ended (left_at t c.args.place) c.args.text.now c.loop-line.count (left_at t c.loop-line.place))
+    (sym (rest_is c.args.text.now inv.0.0 c.loop-line.rest.now inv.0.1)) inv.3
 
 pub returns-in-Nothing-clause-within : goal.returns-in-Nothing-clause-within
 returns-in-Nothing-clause-within c = difference_within _ _
@@ -88,7 +91,8 @@ pub returns-in-Nothing-clause-lines : goal.returns-in-Nothing-clause-lines
 returns-in-Nothing-clause-lines c =
     let inv = c.loop-line.invariant in
     let t = c.args.self.now in
-    subst (LinesStand c.args.ended (left_at t c.args.place) c.args.text.now c.loop-line.count (left_at t c.loop-line.place)) (sym (rest_is c.args.text.now inv.0.0 c.loop-line.rest.now inv.0.1)) inv.3
+    subst (LinesStand c.args.ended (left_at t c.args.place) c.args.text.now c.loop-line.count (left_at t c.loop-line.place))
+    (sym (rest_is c.args.text.now inv.0.0 c.loop-line.rest.now inv.0.1)) inv.3
 
 pub returns-then-not-is_written-clause-within : goal.returns-then-not-is_written-clause-within
 returns-then-not-is_written-clause-within c = difference_within _ _
@@ -103,7 +107,8 @@ pub returns-then-not-is_written-clause-lines : goal.returns-then-not-is_written-
 returns-then-not-is_written-clause-lines c =
     let inv = c.loop-line.invariant in
     let t = c.args.self.now in
-    subst (LinesStand c.args.ended (left_at t c.args.place) c.args.text.now c.loop-line.count (left_at t c.loop-line.place)) (sym (rest_is c.args.text.now inv.0.0 c.loop-line.rest.now inv.0.1)) inv.3
+    subst (LinesStand c.args.ended (left_at t c.args.place) c.args.text.now c.loop-line.count (left_at t c.loop-line.place))
+    (sym (rest_is c.args.text.now inv.0.0 c.loop-line.rest.now inv.0.1)) inv.3
 
 pub returns-in-None-clause-within : goal.returns-in-None-clause-within
 returns-in-None-clause-within c = difference_within _ _
@@ -118,7 +123,8 @@ pub returns-in-None-clause-lines : goal.returns-in-None-clause-lines
 returns-in-None-clause-lines c =
     let inv = c.loop-line.invariant in
     let t = c.args.self.now in
-    subst (LinesStand c.args.ended (left_at t c.args.place) c.args.text.now c.loop-line.count (left_at t c.loop-line.place)) (sym (rest_is c.args.text.now inv.0.0 c.loop-line.rest.now inv.0.1)) inv.3
+    subst (LinesStand c.args.ended (left_at t c.args.place) c.args.text.now c.loop-line.count (left_at t c.loop-line.place))
+    (sym (rest_is c.args.text.now inv.0.0 c.loop-line.rest.now inv.0.1)) inv.3
 
 pub returns-in-Never-clause-all : goal.returns-in-Never-clause-all
 returns-in-Never-clause-all c = λ ended is. (let e : true ≡ false = is in cc)

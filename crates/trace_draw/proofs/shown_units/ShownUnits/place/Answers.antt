@@ -32,7 +32,8 @@ overflow_cast-result c =
     let d : ℕ = min (max c.args.tick (first_tick w)) (end_tick w) - first_tick w in
     let once = apart d 9700 w.scale w.units c.requires.some_scale in
     let most = along_within d 9700 w.scale w.units (distance_within c.args.tick w.from w.units w.scale) c.requires.some in
-    rw (c.min.ensures, c.max.ensures, c.end_tick.ensures.value, c.first_tick-first.ensures.value, c.from-width.ensures, c.from.ensures) (omega (arith, once, most))
+    rw (c.min.ensures, c.max.ensures, c.end_tick.ensures.value, c.first_tick-first.ensures.value, c.from-width.ensures, c.from.ensures)
+    (omega (arith, once, most))
 
 pub overflow_add-result : goal.overflow_add-result
 overflow_add-result c =
@@ -40,7 +41,8 @@ overflow_add-result c =
     let d : ℕ = min (max c.args.tick (first_tick w)) (end_tick w) - first_tick w in
     let once = apart d 9700 w.scale w.units c.requires.some_scale in
     let most = along_within d 9700 w.scale w.units (distance_within c.args.tick w.from w.units w.scale) c.requires.some in
-    rw (c.min.ensures, c.max.ensures, c.end_tick.ensures.value, c.first_tick-first.ensures.value, c.from-width.ensures, c.from.ensures) (omega (arith, once, most))
+    rw (c.min.ensures, c.max.ensures, c.end_tick.ensures.value, c.first_tick-first.ensures.value, c.from-width.ensures, c.from.ensures)
+    (omega (arith, once, most))
 
 pub returns-clause-value : goal.returns-clause-value
 returns-clause-value c =
@@ -55,7 +57,8 @@ returns-clause-within c =
     let d : ℕ = min (max c.args.tick (first_tick w)) (end_tick w) - first_tick w in
     let once = apart d 9700 w.scale w.units c.requires.some_scale in
     let most = along_within d 9700 w.scale w.units (distance_within c.args.tick w.from w.units w.scale) c.requires.some in
-    rw (c.min.ensures, c.max.ensures, c.end_tick.ensures.value, c.first_tick-first.ensures.value, c.from-width.ensures, c.from.ensures) (omega (arith, once, most))
+    rw (c.min.ensures, c.max.ensures, c.end_tick.ensures.value, c.first_tick-first.ensures.value, c.from-width.ensures, c.from.ensures)
+    (omega (arith, once, most))
 
 pub first_tick-first-requires : goal.first_tick-first-requires
 first_tick-first-requires c = c.requires
@@ -73,13 +76,32 @@ pub nonzero_div-along : goal.nonzero_div-along
 nonzero_div-along c = c.requires.some_scale
 
 pub overflow_sub-distance : goal.overflow_sub-distance
-overflow_sub-distance c = let w = c.args.self.now in rw (c.min.ensures, c.max.ensures, c.end_tick.ensures.value, c.first_tick-first.ensures.value) (begins_within c.args.tick w.from w.units w.scale)
+overflow_sub-distance c = let w = c.args.self.now in rw (c.min.ensures, c.max.ensures, c.end_tick.ensures.value, c.first_tick-first.ensures.value)
+    (begins_within c.args.tick w.from w.units w.scale)
 
 pub overflow_mul-along : goal.overflow_mul-along
-overflow_mul-along c = let w = c.args.self.now in rw (c.min.ensures, c.max.ensures, c.end_tick.ensures.value, c.first_tick-first.ensures.value, c.from-width.ensures) (whole_fits _ w.scale w.units w.from (distance_within c.args.tick w.from w.units w.scale) c.requires.some_scale c.requires.fits)
+overflow_mul-along c = let w = c.args.self.now in rw (
+  c.min.ensures,
+  c.max.ensures,
+  c.end_tick.ensures.value,
+  c.first_tick-first.ensures.value,
+  c.from-width.ensures,
+) (whole_fits _ w.scale w.units w.from (distance_within c.args.tick w.from w.units w.scale) c.requires.some_scale c.requires.fits)
 
 pub overflow_mul-along-2 : goal.overflow_mul-along-2
-overflow_mul-along-2 c = let w = c.args.self.now in rw (c.min.ensures, c.max.ensures, c.end_tick.ensures.value, c.first_tick-first.ensures.value, c.from-width.ensures) (rest_fits _ w.scale c.requires.some_scale c.requires.scale_fits)
+overflow_mul-along-2 c = let w = c.args.self.now in rw (
+  c.min.ensures,
+  c.max.ensures,
+  c.end_tick.ensures.value,
+  c.first_tick-first.ensures.value,
+  c.from-width.ensures,
+) (rest_fits _ w.scale c.requires.some_scale c.requires.scale_fits)
 
 pub overflow_add-along : goal.overflow_add-along
-overflow_add-along c = let w = c.args.self.now in rw (c.min.ensures, c.max.ensures, c.end_tick.ensures.value, c.first_tick-first.ensures.value, c.from-width.ensures) (sum_fits _ w.scale w.units w.from (distance_within c.args.tick w.from w.units w.scale) c.requires.some_scale c.requires.fits)
+overflow_add-along c = let w = c.args.self.now in rw (
+  c.min.ensures,
+  c.max.ensures,
+  c.end_tick.ensures.value,
+  c.first_tick-first.ensures.value,
+  c.from-width.ensures,
+) (sum_fits _ w.scale w.units w.from (distance_within c.args.tick w.from w.units w.scale) c.requires.some_scale c.requires.fits)

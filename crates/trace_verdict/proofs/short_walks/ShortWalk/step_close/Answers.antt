@@ -115,10 +115,12 @@ pub step_near-requires-clause-paced : goal.step_near-requires-clause-paced
 step_near-requires-clause-paced c = (step_paced c.args._rows.now c.args.task (wide_of c.args.self.now) c.requires.gone (some_gone _ c.if-self-eq0.false)).tick
 
 pub step_near-requires-clause-few_preempted : goal.step_near-requires-clause-few_preempted
-step_near-requires-clause-few_preempted c = step_preempted c.args._rows.now c.args.task (wide_of c.args.self.now) c.requires.gone (some_gone _ c.if-self-eq0.false) (omega arith)
+step_near-requires-clause-few_preempted c = step_preempted c.args._rows.now c.args.task (wide_of c.args.self.now) c.requires.gone
+    (some_gone _ c.if-self-eq0.false) (omega arith)
 
 pub step_near-requires-clause-few_moved : goal.step_near-requires-clause-few_moved
-step_near-requires-clause-few_moved c = step_moved c.args._rows.now c.args.task (wide_of c.args.self.now) c.requires.gone (some_gone _ c.if-self-eq0.false) (omega arith)
+step_near-requires-clause-few_moved c = step_moved c.args._rows.now c.args.task (wide_of c.args.self.now) c.requires.gone (some_gone _ c.if-self-eq0.false)
+    (omega arith)
 
 pub step_near-requires-clause-near : goal.step_near-requires-clause-near
 step_near-requires-clause-near c = c.is_near.ensures c.if-is_near.true
@@ -175,10 +177,12 @@ pub step_over-requires-clause-paced : goal.step_over-requires-clause-paced
 step_over-requires-clause-paced c = (step_paced c.args._rows.now c.args.task (wide_of c.args.self.now) c.requires.gone (some_gone _ c.if-self-eq0.false)).tick
 
 pub step_over-requires-clause-few_preempted : goal.step_over-requires-clause-few_preempted
-step_over-requires-clause-few_preempted c = step_preempted c.args._rows.now c.args.task (wide_of c.args.self.now) c.requires.gone (some_gone _ c.if-self-eq0.false) (omega arith)
+step_over-requires-clause-few_preempted c = step_preempted c.args._rows.now c.args.task (wide_of c.args.self.now) c.requires.gone
+    (some_gone _ c.if-self-eq0.false) (omega arith)
 
 pub step_over-requires-clause-few_moved : goal.step_over-requires-clause-few_moved
-step_over-requires-clause-few_moved c = step_moved c.args._rows.now c.args.task (wide_of c.args.self.now) c.requires.gone (some_gone _ c.if-self-eq0.false) (omega arith)
+step_over-requires-clause-few_moved c = step_moved c.args._rows.now c.args.task (wide_of c.args.self.now) c.requires.gone (some_gone _ c.if-self-eq0.false)
+    (omega arith)
 
 pub step_over-requires-clause-begins : goal.step_over-requires-clause-begins
 step_over-requires-clause-begins c = c.in-Some-period_of.ensures

@@ -12,8 +12,10 @@ returns-clause-gone c = λ t.
     let n = c.args.near.now in
     short_cross_gone c.args._rows.now c.args._task c.args._place w c.args.row.now n c.args.end c.in-Some.next c.in-Some-checked_add.owed
     (record { preemptions = w.preemptions + c.one_if.result; migrations = w.migrations + c.one_if-2.result; response = c.max-self.result })
-    c.requires.gone c.requires.some c.requires.room (record { within = c.requires.within; key = subst (λ (r : Row). task_key r ≡ Some c.args._task) c.requires.row c.requires.key }) c.requires.row
-    c.requires.end c.requires.apart c.requires.long c.requires.ends c.requires.begins c.requires.past c.requires.below c.requires.due c.in-Some.ensures.1 c.in-Some-checked_add.ensures.1
+    c.requires.gone c.requires.some c.requires.room
+    (record { within = c.requires.within; key = subst (λ (r : Row). task_key r ≡ Some c.args._task) c.requires.row c.requires.key }) c.requires.row
+    c.requires.end c.requires.apart c.requires.long c.requires.ends c.requires.begins c.requires.past c.requires.below c.requires.due c.in-Some.ensures.1
+    c.in-Some-checked_add.ensures.1
     (ap (λ x. w.preemptions + x) (c.one_if.ensures ∙ ap (λ b. bit (n.same && b)) c.is_preempted.ensures))
     (ap (λ x. w.migrations + x) (c.one_if-2.ensures ∙ ap (λ b. bit (n.same && b)) c.is_moved.ensures))
     c.max-self.ensures

@@ -22,7 +22,8 @@ step-requires-clause-few_moved c =
 
 pub loop-row-preserved : goal.loop-row-preserved
 loop-row-preserved c =
-    goes_next c.args.periods.now c.args.rows.now c.loop-row.row-index _ c.args.self.now c.loop-row.self c.step.new.self c.loop-row-test.true c.loop-row.invariant c.step.ensures.goes
+    goes_next c.args.periods.now c.args.rows.now c.loop-row.row-index _ c.args.self.now c.loop-row.self c.step.new.self c.loop-row-test.true
+    c.loop-row.invariant c.step.ensures.goes
 
 pub returns : goal.returns
 returns c = goes_all c.args.periods.now c.args.rows.now c.loop-row.row-index c.args.self.now c.loop-row.self c.loop-row-test.false c.loop-row.invariant

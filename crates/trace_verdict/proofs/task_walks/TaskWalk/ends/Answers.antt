@@ -9,4 +9,5 @@ returns-then-self c = λ rows j g. ends_late rows j c.args.self.now c.if-self.tr
 
 pub returns-then-ends : goal.returns-then-ends
 returns-then-ends c = λ rows j g.
-    ends_in_time rows j c.args.self.now c.ends.result c.if-self.false (c.ends.ensures ∙ ap (λ (w : Walk). holds_from c.args.self.now.periods w.done w.tick []) c.walk-walk.ensures) c.if-ends.true g
+    ends_in_time rows j c.args.self.now c.ends.result c.if-self.false (c.ends.ensures ∙ ap (λ (w : Walk). holds_from c.args.self.now.periods w.done w.tick
+    []) c.walk-walk.ensures) c.if-ends.true g

@@ -6,4 +6,5 @@ pub returns-then-tick-self : goal.returns-then-tick-self
 returns-then-tick-self c = begins_same c.args.self.now c.args.tick c.requires.lawful c.requires.stands c.requires.paced c.requires.apart c.if-tick-self.true
 
 pub returns : goal.returns
-returns c = begins_next c.args.self.now c.args.tick c.requires.lawful c.requires.stands c.requires.paced c.requires.apart (omega arith) (omega arith) (omega arith)
+returns c = begins_next c.args.self.now c.args.tick c.requires.lawful c.requires.stands c.requires.paced c.requires.apart (omega arith) (omega arith)
+    (omega arith)

@@ -118,7 +118,8 @@ pub step_near-requires-in-Some-near-clause-fits : goal.step_near-requires-in-Som
 step_near-requires-in-Some-near-clause-fits c = step_fits c.args._rows.now c.args.task c.args.self.now _ c.requires.gone c.if-row-self-2.false
 
 pub step_near-requires-in-Some-near-clause-few_preempted : goal.step_near-requires-in-Some-near-clause-few_preempted
-step_near-requires-in-Some-near-clause-few_preempted c = step_preempted c.args._rows.now c.args.task c.args.self.now c.requires.gone c.if-self-gt0.true (omega arith)
+step_near-requires-in-Some-near-clause-few_preempted c = step_preempted c.args._rows.now c.args.task c.args.self.now c.requires.gone c.if-self-gt0.true
+    (omega arith)
 
 pub step_near-requires-in-Some-near-clause-few_moved : goal.step_near-requires-in-Some-near-clause-few_moved
 step_near-requires-in-Some-near-clause-few_moved c = step_moved c.args._rows.now c.args.task c.args.self.now c.requires.gone c.if-self-gt0.true (omega arith)

@@ -27,14 +27,17 @@ returns-clause-gone c = λ t.
     (subst (λ (r : Row). GoesPast old.periods (entry_for task r place ∷ []) c.walk-walk.result w) is (c.step.ensures.past c.if-not-step.false place)))
     (λ e. subst (λ (r : Row). Tallied old.periods (r ∷ []) u) is (c.tally_with-tally.ensures.first e))
     (λ ne. subst (λ (r : Row). Goes old.periods (r ∷ []) (tally_of old) u) is (c.tally_with-tally.ensures.later ne))
-    (far_paced old w u n c.args.row.now.end c.requires.gone.ready.lawful (let a = row.begun in let b = row.long in omega (arith, a, b)) (c.step.ensures.tick c.if-not-step.false)
-    (ap (λ (r : Row). r.end) c.tally_with-tally.ensures.before) c.tally_with-tally.ensures.last c.numbered-near.ensures.begin c.numbered-near.ensures.next c.numbered-near.ensures.owed)
+    (far_paced old w u n c.args.row.now.end c.requires.gone.ready.lawful (let a = row.begun in let b = row.long in omega (arith, a, b))
+    (c.step.ensures.tick c.if-not-step.false)
+    (ap (λ (r : Row). r.end) c.tally_with-tally.ensures.before) c.tally_with-tally.ensures.last c.numbered-near.ensures.begin c.numbered-near.ensures.next
+    c.numbered-near.ensures.owed)
 
 pub numbered-near-requires-clause-fits : goal.numbered-near-requires-clause-fits
 numbered-near-requires-clause-fits c =
     let t = c.if-not-step.false in
     let row = c.step.ensures.row t in
-    far_fits c.args.self.now.periods c.tally_with-tally.result.last c.step.new.self.tick c.args.row.now.end c.requires.gone.ready.lawful (let a = row.begun in let b = row.long in omega (arith, a, b))
+    far_fits c.args.self.now.periods c.tally_with-tally.result.last c.step.new.self.tick c.args.row.now.end c.requires.gone.ready.lawful
+    (let a = row.begun in let b = row.long in omega (arith, a, b))
     c.tally_with-tally.ensures.last (c.step.ensures.tick t) (c.step.ensures.past t c.args.place).stands.ends
 
 pub walk-walk-requires-clause-lawful : goal.walk-walk-requires-clause-lawful
@@ -65,7 +68,8 @@ pub tally_with-tally-requires-clause-begun : goal.tally_with-tally-requires-clau
 tally_with-tally-requires-clause-begun c = λ some. begins_before c.args.self.now (pace_of c.args._rows.now c.args.task c.args.self.now c.requires.gone some)
 
 pub tally_with-tally-requires-clause-few_preempted : goal.tally_with-tally-requires-clause-few_preempted
-tally_with-tally-requires-clause-few_preempted c = λ some. step_preempted c.args._rows.now c.args.task c.args.self.now c.requires.gone (some_gone _ some) (omega arith)
+tally_with-tally-requires-clause-few_preempted c = λ some. step_preempted c.args._rows.now c.args.task c.args.self.now c.requires.gone (some_gone _ some)
+    (omega arith)
 
 pub tally_with-tally-requires-clause-few_moved : goal.tally_with-tally-requires-clause-few_moved
 tally_with-tally-requires-clause-few_moved c = λ some. step_moved c.args._rows.now c.args.task c.args.self.now c.requires.gone (some_gone _ some) (omega arith)

@@ -9,6 +9,8 @@ found_with-self-requires-clause-begun c = (let b = c.requires.near.period.begun 
 
 pub returns-clause-gone : goal.returns-clause-gone
 returns-clause-gone c =
-    near_gone c.args._rows.now c.args._task c.args._place c.args.self.now c.args.row.now c.args.near.now c.found_with-self.result c.requires.gone c.requires.some c.requires.room
+    near_gone c.args._rows.now c.args._task c.args._place c.args.self.now c.args.row.now c.args.near.now c.found_with-self.result c.requires.gone
+    c.requires.some c.requires.room
     (record { within = c.requires.within; key = subst (λ (r : Row). task_key r ≡ Some c.args._task) c.requires.row c.requires.key }) c.requires.row
-    c.requires.apart c.requires.long c.requires.ends c.requires.near c.found_with-self.ensures.preemptions c.found_with-self.ensures.migrations c.found_with-self.ensures.response
+    c.requires.apart c.requires.long c.requires.ends c.requires.near c.found_with-self.ensures.preemptions c.found_with-self.ensures.migrations
+    c.found_with-self.ensures.response

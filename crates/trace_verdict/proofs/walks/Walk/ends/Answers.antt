@@ -13,5 +13,6 @@ gap_holds-requires-clause-counted c =
       ordered = s.ends;
       fits = c.requires.lawful.fits;
       before = c.number-ended.ensures ∙ s.number;
-      after = seek_is c.args.periods.now c.args.self.now.clock.base c.args.self.now.clock.span c.args.periods.now.stop c.seek-last.result s.base s.span c.seek-last.ensures.number;
+      after = seek_is c.args.periods.now c.args.self.now.clock.base c.args.self.now.clock.span c.args.periods.now.stop c.seek-last.result s.base s.span
+          c.seek-last.ensures.number;
     }

@@ -13,7 +13,8 @@ gap_holds-requires-clause-counted c =
       ordered = c.requires.apart;
       fits = omega (arith, c.requires.long, c.requires.ends, c.requires.lawful.fits);
       before = c.number-ended.ensures ∙ s.number;
-      after = seek_is c.args.periods.now c.args.self.now.clock.base c.args.self.now.clock.span c.args.start c.seek-before.result s.base s.span c.seek-before.ensures.number;
+      after = seek_is c.args.periods.now c.args.self.now.clock.base c.args.self.now.clock.span c.args.start c.seek-before.result s.base s.span
+          c.seek-before.ensures.number;
     }
 
 pub row_holds-requires-clause-counted : goal.row_holds-requires-clause-counted
@@ -25,8 +26,10 @@ row_holds-requires-clause-counted c =
       begun = omega (arith, s.begun, c.requires.apart);
       ordered = omega (arith, c.requires.long);
       fits = omega (arith, c.requires.ends, c.requires.lawful.fits);
-      before = seek_is c.args.periods.now c.args.self.now.clock.base c.args.self.now.clock.span c.args.start c.seek-before.result s.base s.span c.seek-before.ensures.number;
-      after = seek_is c.args.periods.now c.seek-before.new.self.base c.seek-before.new.self.span c.args.end c.seek-after.result base span c.seek-after.ensures.number;
+      before = seek_is c.args.periods.now c.args.self.now.clock.base c.args.self.now.clock.span c.args.start c.seek-before.result s.base s.span
+          c.seek-before.ensures.number;
+      after = seek_is c.args.periods.now c.seek-before.new.self.base c.seek-before.new.self.span c.args.end c.seek-after.result base span
+          c.seek-after.ensures.number;
     }
 
 pub returns-then-not-gap_holds-clause-due : goal.returns-then-not-gap_holds-clause-due

@@ -20,25 +20,30 @@ loop-i-preserved c =
     let i = c.loop-i.i in
     let place = get_or places i 0 in
     let row = fetched rows c.fetch.new.part places i _ c.fetch.ensures.rows c.loop-i-test.true in
-    let past = subst (λ (r : Row). GoesPast c.args.periods.now (entry_for c.args.task r place ∷ []) c.loop-i.self c.step.new.self) row (c.step.ensures.past c.if-not-step.false place) in (
+    let past = subst (λ (r : Row). GoesPast c.args.periods.now (entry_for c.args.task r place ∷ []) c.loop-i.self c.step.new.self) row
+    (c.step.ensures.past c.if-not-step.false place) in (
       own_more rows c.args.task places i 0 c.loop-i-test.true c.loop-i.invariant.0 (record {
         within = subst (λ n. place < n) c.len.ensures (c.are_within.ensures c.if-not-are_within.false i c.loop-i-test.true);
         key = ap task_key (sym row) ∙ c.step.ensures.key c.if-not-step.false;
       }),
       past_more c.args.periods.now rows c.args.task places i 0 c.args.self.now c.loop-i.self c.step.new.self c.loop-i-test.true c.loop-i.invariant.1 past,
-      rows_more c.args.periods.now rows places i 0 c.loop-i-test.true c.loop-i.invariant.2 (subst (IsRowIn c.args.periods.now) row (c.step.ensures.row c.if-not-step.false)),
+      rows_more c.args.periods.now rows places i 0 c.loop-i-test.true c.loop-i.invariant.2 (subst (IsRowIn c.args.periods.now) row
+          (c.step.ensures.row c.if-not-step.false)),
     )
 
 pub returns-clause-own : goal.returns-clause-own
-returns-clause-own c = λ t. subst (AllByRecursion (IsPlaceOf c.args.rows.now c.args.task)) (take_all c.loop-i.i c.args.places.now (omega arith)) c.loop-i.invariant.0
+returns-clause-own c = λ t. subst (AllByRecursion (IsPlaceOf c.args.rows.now c.args.task)) (take_all c.loop-i.i c.args.places.now (omega arith))
+    c.loop-i.invariant.0
 
 pub returns-clause-past : goal.returns-clause-past
 returns-clause-past c = λ t.
-    subst (λ places. GoesPast c.args.periods.now (entries_at c.args.rows.now c.args.task places) c.args.self.now c.loop-i.self) (take_all c.loop-i.i c.args.places.now (omega arith)) c.loop-i.invariant.1
+    subst (λ places. GoesPast c.args.periods.now (entries_at c.args.rows.now c.args.task places) c.args.self.now c.loop-i.self)
+    (take_all c.loop-i.i c.args.places.now (omega arith)) c.loop-i.invariant.1
 
 pub returns-clause-rows : goal.returns-clause-rows
 returns-clause-rows c = λ t.
-    subst (λ places. AllByRecursion (IsRowIn c.args.periods.now) (map (row_at c.args.rows.now) places)) (take_all c.loop-i.i c.args.places.now (omega arith)) c.loop-i.invariant.2
+    subst (λ places. AllByRecursion (IsRowIn c.args.periods.now) (map (row_at c.args.rows.now) places)) (take_all c.loop-i.i c.args.places.now
+    (omega arith)) c.loop-i.invariant.2
 
 pub returns-then-not-are_within-clause-own : goal.returns-then-not-are_within-clause-own
 returns-then-not-are_within-clause-own c = λ t. absurd (false≢true t)

@@ -11,5 +11,6 @@ returns c =
     let same = ap (λ (xs : List Span). length xs) spans in
     let long = c.requires.masks.spans.long in
     let low = c.requires.level in
-    let at = c.index.ensures ∙ get_or_default c.self.inside.spans.items c.args.level c.index.result.now no_span (omega (arith, same, long, low)) ∙ ap (λ (xs : List Span). get_or xs c.args.level no_span) spans in
+    let at = c.index.ensures ∙ get_or_default c.self.inside.spans.items c.args.level c.index.result.now no_span (omega (arith, same, long, low))
+    ∙ ap (λ (xs : List Span). get_or xs c.args.level no_span) spans in
     subst (IsSpanOf c.args.tree.now m.groups c.args.level) (sym at) (c.requires.masks.spans.each c.args.level low)

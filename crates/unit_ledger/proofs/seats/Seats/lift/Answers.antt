@@ -26,7 +26,11 @@ returns-clause-rest g c = rw (c.take.ensures.after, c.self.view_is) refl
 
 pub invariant_of-self : goal.invariant_of-self
 invariant_of-self g c =
-    rw c.take.ensures.after (rw length-set c.self.invariant.0, at_home_with c.self.inside.places.items c.args.p None (λ seat none. absurd (none-some _ none)) c.self.invariant.1)
+    rw c.take.ensures.after (
+      rw length-set c.self.invariant.0,
+      at_home_with c.self.inside.places.items c.args.p None
+          (λ seat none. absurd (none-some _ none)) c.self.invariant.1,
+    )
 
 pub index_mut-place-requires : goal.index_mut-place-requires
 index_mut-place-requires g c =
