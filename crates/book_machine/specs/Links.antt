@@ -50,7 +50,7 @@ pub record IsLast (rows : List (List Row)) (leaf : Leaf) (n p q j : ℕ) : Type 
   pub of_leaf : row.leaf ≡ leaf
   pub last : (u i : ℕ) (r : Row) → IsBefore n p u i → RowAt rows u i r → r.leaf ≡ leaf → IsNoLater q j u i
 
--- what a latest says of the leaf's rows before (n, p): its last one, and the last one on another processor than that
+-- what is kept of a leaf while links are made: no row yet, or its last row with the link of that row, or nothing known
 abbrev pub IsLatest : List (List Row) → Leaf → ℕ → ℕ → Latest → Type 0
 IsLatest rows leaf n p NoRow = (u i : ℕ) (r : Row) → IsBefore n p u i → RowAt rows u i r → r.leaf ≢ leaf
 IsLatest rows leaf n p (Last place link) = IsLast rows leaf n p place.lane place.round × LinkMeans rows leaf place.lane n p link

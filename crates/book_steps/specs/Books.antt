@@ -13,6 +13,7 @@ use Rattle.plan_rounds.specs.Parts.{LogPart, posted_ticks}
 use Rattle.plan_rounds.specs.Laws.{FollowsPlan}
 use Rattle.book_steps.specs.Pending.{PendingContents, PendingKept}
 
+-- what contracts see of a book for C
 pub record BookHeld : Type 0 where
   pub plan : PlanContents
   pub window : ℕ
@@ -68,6 +69,7 @@ pub record IsSound (b : BookHeld) : Type 0 where
   pub totals : AreTotals b.plan b.state b.totals
   pub faults : AreFaults b.state (rounds_in b.table.lanes) b.faults
 
+-- the table of a plan before its first round
 abbrev pub no_rows : PlanContents → Table
 no_rows p = record { lanes = replicate p.tree.processors []; room = rounds_of p }
 

@@ -15,6 +15,7 @@ use Rattle.plan_rounds.specs.Parts.{RowsKept}
 use Rattle.book_steps.specs.declared.ring.PendingRow.{PendingRow}
 use Rattle.book_steps.specs.Sources.{GoesOnWithPlan, SourceContents, recurrence}
 
+-- the rows computed and not yet let go, and what is counted of them
 pub record PendingContents : Type 0 where
   pub source : SourceContents
   -- how many rows of one round there is room for

@@ -13,6 +13,7 @@ use Rattle.book_steps.specs.declared.source.Repeating.{Repeating}
 use Rattle.book_steps.specs.declared.source.Stage.{Stage}
 use Rattle.book_steps.specs.declared.source.Stage.TheVariants.{Computes, Begins, Keeps, Repeats}
 
+-- where the next round comes from: the core, or kept rounds
 pub record SourceContents : Type 0 where
   pub core : CoreContents
   -- the tick at which the next round begins

@@ -110,33 +110,43 @@ AddsItself command = (old new : CommandOfClap) → AddsSubcommand old command ne
 abbrev pub with_rate : App
 with_rate = with_command program (new_app (codes "rate"))
 
+-- the program with the command tree besides
 abbrev pub with_tree : App
 with_tree = with_command with_rate (new_app (codes "tree"))
 
+-- the program with the command trace besides
 abbrev pub with_trace : App
 with_trace = with_command with_tree (with_rule (with_rule (with_rule (new_app (codes "trace")) met) by) repeat)
 
+-- the program with the command table besides
 abbrev pub with_table : App
 with_table = with_command with_trace (with_rule (new_app (codes "table")) repeat)
 
+-- the program with the command check besides
 abbrev pub with_check : App
 with_check = with_command with_table (new_app (codes "check"))
 
+-- the program with the command follow besides
 abbrev pub with_follow : App
 with_follow = with_command with_check (new_app (codes "follow"))
 
+-- the program with the command draw besides
 abbrev pub with_draw : App
 with_draw = with_command with_follow (with_rule (with_rule (new_app (codes "draw")) from_option) units_option)
 
+-- the program with the command batch besides
 abbrev pub with_batch : App
 with_batch = with_command with_draw (new_app (codes "batch"))
 
+-- the program with the command exec besides
 abbrev pub with_exec : App
 with_exec = with_command with_batch (with_rule (with_rule (new_app (codes "exec")) met) window)
 
+-- the program with the command drill besides
 abbrev pub with_drill : App
 with_drill = with_command with_exec (with_rule (new_app (codes "drill")) number)
 
+-- the program with the command jobs besides
 abbrev pub with_jobs : App
 with_jobs = with_command with_drill (new_app (codes "jobs"))
 

@@ -53,7 +53,7 @@ pub record IsOver (t : Tree) (p : ℕ) (next : Option ℕ) (before after : List 
   pub rest : (x : ℕ) → (IsMember t x → ⊥) → slice_index_or after x false ≡ slice_index_or before x false
   pub long : length after ≡ length before
 
--- there is an entry of each list for each node
+-- each list that the core keeps has one entry for each node
 pub record AreLong (t : Tree) (d : DueContents) (s : ServingContents) : Type 0 where
   pub dues : length d.runs ≡ length t.nodes
   pub ready : length s.ready ≡ length t.nodes
@@ -111,7 +111,7 @@ first_runs t runs i = slice_index_or runs (slice_index (packs_at t 0) i) false
 abbrev pub IsSettled : Tree → List (Option ℕ) → List Bool → List Bool → ℕ → Type 0
 IsSettled t onto stale runs i = slice_index_or stale (slice_index (packs_at t 0) i) false ≡ false → is_held onto i ≡ first_runs t runs i
 
--- so are all of them from number n on
+-- each unmarked pack of level 0 from number n on is on a processor exactly where it runs
 abbrev pub AreSettledFrom : Tree → List (Option ℕ) → List Bool → List Bool → ℕ → Type 0
 AreSettledFrom t onto stale runs n = (i : ℕ) → n ≤ i → i < length (packs_at t 0) → IsSettled t onto stale runs i
 

@@ -17,6 +17,7 @@ lane_in (Take p) = p.0
 lane_in (Post p) = p.0
 lane_in (Halt p) = p.0
 
+-- the events so far, and the room for them
 pub record LogContents : Type 0 where
   pub events : List Event
   -- for how many events there is room in all

@@ -11,6 +11,7 @@ use Rattle.unit_ledger.specs.Seats.{Seat}
 use Rattle.exec_lanes.specs.declared.causes.Cause.{Cause}
 use Rattle.exec_lanes.specs.declared.causes.Cause.TheVariants as cause
 
+-- what contracts see of a lane: its gate, its seat, and why it stopped
 pub record LaneContents : Type 0 where
   -- the rows that the gate ran, where it tells them, and how often the gate has failed
   pub ran : Option (List Row)

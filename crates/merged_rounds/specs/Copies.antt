@@ -30,7 +30,7 @@ is_within w b = ltb w.from b.start && ltb b.start w.until
 abbrev pub copy_on : Window → List Begun → Begun → List Begun
 copy_on w lane b = if is_within w b then showing lane (b.start + w.ticks) b.leaf else lane
 
--- so do these rows, one after another
+-- the rows of a window, appended so many ticks later
 abbrev pub copied : Window → List Begun → List Begun → List Begun
 copied w lane [] = lane
 copied w lane (b ∷ rows) = copied w (copy_on w lane b) rows

@@ -56,7 +56,7 @@ pub record IsLap (p : PlanContents) (from : ℕ) (ends : List ℕ) (all : List (
       slice_index_or all (i * p.tree.processors + q) None ≡ Some (leaf_at p (round_start from ends i) (slice_index ends i) q none)
   pub long : length all ≡ length ends * p.tree.processors
 
--- so are those of a lap
+-- the lap has the ends of the rounds from this tick on, and what each processor shows in each
 abbrev pub IsLapFrom : PlanContents → ℕ → Lap → Type 0
 IsLapFrom p from lap = IsLap p from lap.ends.items lap.told.items
 
@@ -69,14 +69,14 @@ pub record CanComeRound (p : PlanContents) : Type 0 where
   pub on_time : AllByRecursion (λ t. t.offset ≡ 0) p.set.tasks
   pub apart : IdlesApart p.tree
 
--- so many ticks are units that each period divides
+-- so many ticks are a multiple of the hyperperiod
 pub record AreTurns (p : PlanContents) (ticks : ℕ) : Type 0 where
   pub units : ℕ
   pub are : ticks ≡ units * p.tree.scale
   pub some : 1 ≤ units
   pub whole : PeriodsDivide p.set.tasks units
 
--- and the places are the same so many ticks after tick `from`
+-- the packs stand on processors at tick `from` as they do so many ticks later, a multiple of the hyperperiod
 pub record ComesAgain (p : PlanContents) (from ticks : ℕ) : Type 0 where
   pub turns : AreTurns p ticks
   pub places : places_of p (from + ticks) ≡ places_of p from

@@ -67,6 +67,7 @@ pub record IsTurn (p : PlanContents) (ends parts packs : List ℕ) (shown : List
 abbrev pub packs_kept : Turn → List ℕ
 packs_kept t = packs_in t.entries.items
 
+-- what these packs show
 abbrev pub shown_kept : Turn → List (Option Leaf)
 shown_kept t = shown_in t.entries.items
 
@@ -74,7 +75,7 @@ shown_kept t = shown_in t.entries.items
 abbrev pub turn_end : Turn → ℕ
 turn_end t = round_start 0 t.ends (length t.ends)
 
--- so they are, and this is what each pack shows in the last one
+-- the kept rounds of a hyperperiod, and what each pack shows in the last of them
 pub record IsTurnOf (p : PlanContents) (t : Turn) : Type 0 where
   pub turn : IsTurn p t.ends t.parts.items (packs_kept t) (shown_kept t)
   pub whole : part_start t.parts.items (length t.parts.items) ≡ length (packs_kept t)

@@ -36,6 +36,7 @@ kind_of (Some (Idle n)) = kind.Idle
 kind_of (Some (Wait t)) = kind.Wait
 kind_of (Some Empty) = kind.Empty
 
+-- the number beside the kind; 0 where the kind says all
 abbrev pub number_of : Option Leaf → ℕ
 number_of None = 0
 number_of (Some (Task t)) = t.0
@@ -43,6 +44,7 @@ number_of (Some (Idle n)) = n
 number_of (Some (Wait t)) = t.0
 number_of (Some Empty) = 0
 
+-- a kind and a number as they are kept
 abbrev inside : Kind → ℕ → Inside
 inside k n = record { number = n; kind = k }
 
@@ -63,5 +65,6 @@ pub record PackShows : Type 0 where
 abbrev pub packs_in : List PackShows → List ℕ
 packs_in = map (λ e. e.pack)
 
+-- what each of these packs shows
 abbrev pub shown_in : List PackShows → List (Option Leaf)
 shown_in = map (λ e. e.shown)

@@ -55,7 +55,7 @@ abbrev pub going_on : List Begun → ℕ → Option Leaf → List Begun
 going_on lane start None = lane
 going_on lane start (Some leaf) = showing lane start leaf
 
--- so does each processor
+-- each processor shows the leaf that is told of it from here on; where none is told its last row goes on
 abbrev pub going_on_each : List (List Begun) → ℕ → List (Option Leaf) → List (List Begun)
 going_on_each [] start told = []
 going_on_each (lane ∷ lanes) start [] = lane ∷ lanes

@@ -18,6 +18,7 @@ use Rattle.part_rounds.specs.declared.sources.PartRounds.{PartRounds}
 abbrev pub own_pack : PartPlan → ℕ → ℕ
 own_pack part k = first_pack part.plan.tree k
 
+-- member j of that pack
 abbrev pub own_member : PartPlan → ℕ → ℕ → ℕ
 own_member part k j = member part.plan.tree (own_pack part k) j
 

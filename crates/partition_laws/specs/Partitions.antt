@@ -20,6 +20,7 @@ first_pack t i = slice_index_or (packs_at t 0) i 0
 abbrev pub member_count : Tree → ℕ → ℕ
 member_count t i = length (members t (first_pack t i))
 
+-- member k of pack i of level 0
 abbrev pub member_of : Tree → ℕ → ℕ → ℕ
 member_of t i k = member t (first_pack t i) k
 

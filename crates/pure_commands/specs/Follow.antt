@@ -54,6 +54,7 @@ pub record IsFollowed (w : Written) : Type 0 where
   pub tree : IsTreeOf w.set (text_tree w)
   pub valid : IsValid w.set w.scale (w.set.horizon * w.scale) (w.set.horizon * w.scale) (schedule_of (plan_told w))
 
+-- each tree text that is read without a fault has a valid schedule
 abbrev pub FollowsTrees : Type 0
 FollowsTrees = (bytes : List ℕ) (w : Written) → ReadsTree bytes w → IsFollowed w
 

@@ -23,7 +23,7 @@ repeated ticks rows (suc n) = repeated ticks rows n ++ map (later (n * ticks)) r
 abbrev pub up_to : ℕ → SetContents → SetContents
 up_to horizon s = record s { horizon = horizon }
 
--- it holds of this task, and of none before it
+-- task i is the first of which P holds
 pub record IsFirstTask (P : Task → Type 0) (tasks : List Task) (i : ℕ) : Type 0 where
   pub within : i < length tasks
   pub holds : P (task_at tasks i)

@@ -35,6 +35,7 @@ pub record Crew : Type 0 where
   pub gates : List (Option GateSeen)
   pub jobs : List (Option JobSeen)
 
+-- what the gates in these kits tell
 abbrev pub gates_of : {G : Type 0} → (G → Option (List Row)) → (G → ℕ) → List (Kit G) → List (Option GateSeen)
 gates_of ran faults kits = map (λ kit. option_map (λ gate. record { ran = ran gate; faults = faults gate }) kit.gate) kits
 

@@ -26,6 +26,7 @@ abbrev pub pack_boundary : (Leaf → ℕ → Bool) → Tree → ℕ → ℕ → 
 pack_boundary of_leaf t zero p u = any_of (λ x. member_boundary of_leaf (λ q v. false) (kind_at t x) u) (members t p)
 pack_boundary of_leaf t (suc level) p u = any_of (λ x. member_boundary of_leaf (λ q v. pack_boundary of_leaf t level q v) (kind_at t x) u) (members t p)
 
+-- whether unit u is a boundary of node x, which is of this kind
 abbrev pub node_boundary : (Leaf → ℕ → Bool) → Tree → ℕ → Kind → ℕ → Bool
 node_boundary of_leaf t x (kind.Leaf leaf) u = of_leaf leaf u
 node_boundary of_leaf t x (kind.Pack level) u = pack_boundary of_leaf t level x u

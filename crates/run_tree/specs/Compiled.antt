@@ -36,6 +36,7 @@ first_level processors scale rates = filled_up (pack_items (task_items 0 rates) 
 abbrev pub level_above : Making → List ℕ → Making
 level_above m packs = pack_items (dual_items m.tree packs) (new_level m)
 
+-- one level more over these packs, and those above it; none where no pack is left
 abbrev pub climb_by : List ℕ → Making → (Making → Making) → Making
 climb_by [] m higher = m
 climb_by (p ∷ packs) m higher = higher (level_above m (p ∷ packs))

@@ -31,6 +31,7 @@ with_pack base level g = record { nodes = g.nodes ++ pack_node level ∷ []; pac
 abbrev pub grown_at : ℕ → Kind → ℕ → ℕ → Growth → Growth
 grown_at base k rate b g = record { nodes = with_member base k rate (slice_index_or g.packs b 0 - base) g.nodes; packs = g.packs }
 
+-- a new member in pack b, or in a new pack
 abbrev pub grown_in : ℕ → ℕ → Kind → ℕ → ℕ → Growth → Bool → Growth
 grown_in base level k rate b g true = grown_at base k rate b g
 grown_in base level k rate b g false = grown_at base k rate (length g.packs) (with_pack base level g)

@@ -14,6 +14,7 @@ pub record Making : Type 0 where
 abbrev pub started : ℕ → ℕ → Making
 started processors scale = record { tree = record { processors = processors; scale = scale; levels = 1; nodes = [] }; last = [] }
 
+-- the tree with these nodes
 abbrev pub with_nodes : Tree → List Node → Tree
 with_nodes t nodes = record t { nodes = nodes }
 
@@ -29,6 +30,7 @@ pack_node level = record { kind = kind.Pack level; rate = 0; home = 0; place = 0
 abbrev pub joined : Node → ℕ → ℕ → Node
 joined p member rate = record p { rate = p.rate + rate; members = p.members ++ member ∷ [] }
 
+-- the pack with this dual
 abbrev pub with_dual : Node → ℕ → Node
 with_dual p dual = record p { dual = Some dual }
 
@@ -54,6 +56,7 @@ opened m = record { tree = with_nodes m.tree (m.tree.nodes ++ pack_node (m.tree.
 abbrev pub joined_at : Kind → ℕ → ℕ → Making → Making
 joined_at k rate b m = record { tree = join_member k rate (slice_index_or m.last b 0) m.tree; last = m.last }
 
+-- a new member in pack b, or in a new pack
 abbrev pub put_in : Kind → ℕ → ℕ → Making → Bool → Making
 put_in k rate b m true = joined_at k rate b m
 put_in k rate b m false = joined_at k rate (length m.last) (opened m)

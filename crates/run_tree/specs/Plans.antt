@@ -8,6 +8,7 @@ use Rattle.run_tree.specs.TreeOfSet.{IsTreeOf}
 use Rattle.run_tree.specs.Boundaries.{is_boundary, set_boundary}
 use Rattle.run_tree.specs.Schedule as schedule
 
+-- what contracts see of a plan: a set and a reduction tree of it
 pub record PlanContents : Type 0 where
   pub set : SetContents
   pub tree : Tree
@@ -20,12 +21,12 @@ pub record IsSized (t : Tree) : Type 0 where
   pub few_nodes : length t.nodes < 2 ^ 32
   pub rates : (x : ℕ) → x < length t.nodes → rate t x ≤ t.scale
 
--- what the type of a tree keeps
+-- a reduction tree within the limits
 pub record IsLawfulTree (t : Tree) : Type 0 where
   pub tree : IsTree t
   pub sized : IsSized t
 
--- what the type of a plan keeps
+-- a lawful set with a reduction tree of it, within the limits
 pub record IsPlan (p : PlanContents) : Type 0 where
   pub lawful : IsLawful p.set
   pub tree : IsTreeOf p.set p.tree
@@ -43,5 +44,6 @@ boundary_of p x u = is_boundary (set_boundary p.set.tasks) p.tree x u
 abbrev pub schedule_of : PlanContents → List Row
 schedule_of p = schedule.schedule p.set.tasks p.tree (stop_of p)
 
+-- the number of rounds of a plan's schedule
 abbrev pub rounds_of : PlanContents → ℕ
 rounds_of p = schedule.rounds p.set.tasks p.tree (stop_of p)

@@ -6,6 +6,7 @@ use Rattle.sched_base.specs.declared.rows.Leaf.TheVariants.{Task, Wait, Idle, Em
 use Rattle.run_tree.specs.Tree.{Tree, kind_at, leaf, is_leaf, is_pack}
 use Rattle.run_tree.specs.Runs.{runs, due_left, ticks_below}
 
+-- whether the leaf is a task
 abbrev pub is_task : Leaf → Bool
 is_task (Task id) = true
 is_task (Wait id) = false

@@ -55,6 +55,7 @@ window_end_now of_leaf t past x = window_end (is_boundary of_leaf t x) (length p
 abbrev pub next_tick : (Leaf → ℕ → Bool) → Tree → List (List Bool) → List Bool
 next_tick of_leaf t past = map (runs_now t (due_left of_leaf t past) (window_end_now of_leaf t past)) (range_with_len 0 (length t.nodes))
 
+-- the past, and who runs at the next tick
 abbrev pub with_next_tick : (Leaf → ℕ → Bool) → Tree → List (List Bool) → List (List Bool)
 with_next_tick of_leaf t past = past ++ next_tick of_leaf t past ∷ []
 

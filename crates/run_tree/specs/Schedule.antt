@@ -63,6 +63,7 @@ abbrev pub rows_of : List declared.Task → Tree → ℕ → ℕ → List ℕ �
 rows_of tasks t stop event [] = round_rows tasks t event stop
 rows_of tasks t stop event (next ∷ events) = round_rows tasks t event next ++ rows_of tasks t stop next events
 
+-- the rows of the rounds that begin at these events
 abbrev pub rows_of_events : List declared.Task → Tree → ℕ → List ℕ → List Row
 rows_of_events tasks t stop [] = []
 rows_of_events tasks t stop (event ∷ events) = rows_of tasks t stop event events

@@ -18,6 +18,7 @@ pub record Node : Type 0 where
   pub members : List ℕ
   pub dual : Option ℕ
 
+-- the processors, the ticks of a unit, the levels, and the nodes by number
 pub record Tree : Type 0 where
   pub processors : ℕ
   pub scale : ℕ
@@ -38,16 +39,19 @@ node t n = slice_index_or t.nodes n no_node
 
 -- ---- what a kind says
 
+-- whether it is a leaf
 abbrev pub is_leaf : Kind → Bool
 is_leaf (kind.Leaf leaf) = true
 is_leaf (kind.Pack level) = false
 is_leaf (kind.Dual primal) = false
 
+-- whether it is a pack
 abbrev pub is_pack : Kind → Bool
 is_pack (kind.Leaf leaf) = false
 is_pack (kind.Pack level) = true
 is_pack (kind.Dual primal) = false
 
+-- whether it is a dual
 abbrev pub is_dual : Kind → Bool
 is_dual (kind.Leaf leaf) = false
 is_dual (kind.Pack level) = false
@@ -73,27 +77,35 @@ primal_of (kind.Dual primal) = primal.0
 
 -- ---- nodes by number
 
+-- what node n is
 abbrev pub kind_at : Tree → ℕ → Kind
 kind_at t n = (node t n).kind
 
+-- the leaf that node n is; Empty of another node
 abbrev pub leaf : Tree → ℕ → Leaf
 leaf t n = leaf_of (kind_at t n)
 
+-- the level of pack n; 0 of another node
 abbrev pub level : Tree → ℕ → ℕ
 level t n = level_of (kind_at t n)
 
+-- the pack whose dual node n is
 abbrev pub primal : Tree → ℕ → ℕ
 primal t n = primal_of (kind_at t n)
 
+-- the ticks that node n is given in each unit
 abbrev pub rate : Tree → ℕ → ℕ
 rate t n = (node t n).rate
 
+-- the pack in which member n stands
 abbrev pub home : Tree → ℕ → ℕ
 home t n = (node t n).home
 
+-- the place of member n in its pack
 abbrev pub place : Tree → ℕ → ℕ
 place t n = (node t n).place
 
+-- the members of pack n, in order
 abbrev pub members : Tree → ℕ → List ℕ
 members t n = (node t n).members
 
@@ -101,15 +113,19 @@ members t n = (node t n).members
 abbrev pub member : Tree → ℕ → ℕ → ℕ
 member t p k = slice_index_or (members t p) k 0
 
+-- the dual of pack n; a root has none
 abbrev pub dual : Tree → ℕ → Option ℕ
 dual t n = (node t n).dual
 
+-- there is such a node, and it is a leaf
 abbrev pub IsLeaf : Tree → ℕ → Type 0
 IsLeaf t n = (n < length t.nodes) × (is_leaf (kind_at t n) ≡ true)
 
+-- there is such a node, and it is a pack
 abbrev pub IsPack : Tree → ℕ → Type 0
 IsPack t n = (n < length t.nodes) × (is_pack (kind_at t n) ≡ true)
 
+-- there is such a node, and it is a dual
 abbrev pub IsDual : Tree → ℕ → Type 0
 IsDual t n = (n < length t.nodes) × (is_dual (kind_at t n) ≡ true)
 
@@ -121,6 +137,7 @@ IsMember t n = (n < length t.nodes) × (is_pack (kind_at t n) ≡ false)
 abbrev pub at_level : Tree → ℕ → ℕ → Bool
 at_level t l n = is_pack (kind_at t n) && level t n == l
 
+-- a reduction tree: leaves packed into servers within the scale, the duals of each level packed again, up to roots
 pub record IsTree (t : Tree) : Type 0 where
   pub scaled : 0 < t.scale
   -- the leaves fill the processors

@@ -9,6 +9,7 @@ use Rattle.sched_base.specs.Sets.{SetContents, task_at}
 use Rattle.sched_base.specs.Scale.{IsScale, rate_of}
 use Rattle.run_tree.specs.Tree.{Tree, kind_at, is_leaf, leaf, rate, IsLeaf, IsTree}
 
+-- task number j
 abbrev pub task_id : ℕ → TaskId
 task_id j = record { 0 = j }
 

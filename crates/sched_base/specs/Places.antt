@@ -4,6 +4,7 @@ use Rattle.std.specs.Prelude.{None, slice_index_or}
 use Rattle.std.specs.List.{range_with_len, list_any}
 use Rattle.sched_base.specs.Candidates.{is_at}
 
+-- the pack on each processor, and the processor that each pack held last
 pub record Placing : Type 0 where
   -- the pack on each processor
   pub onto : List (Option ℕ)

@@ -26,7 +26,7 @@ task_ticks (r ∷ rows) j a b = bit (is_of_task j r.leaf) * overlap r.start r.en
 abbrev pub DontOverlap : Row → Row → Type 0
 DontOverlap r q = (r.end ≤ q.start) ⊎ (q.end ≤ r.start)
 
--- it holds of each item and each later one
+-- P holds of each two items of the list, the earlier one first
 abbrev pub AllApart : {X : Type 0} → (X → X → Type 0) → List X → Type 0
 AllApart P [] = Unit {0}
 AllApart P (x ∷ xs) = AllByRecursion (P x) xs × AllApart P xs

@@ -2,6 +2,7 @@
 use Rattle.std.specs.Prelude.{ℕ, ◌+◌, ◌-◌, ◌^◌, ◌==◌, min, Bool, List, length}
 use Rattle.std.specs.List.{list_any}
 
+-- what contracts see of a source in memory, for tests
 pub record SourceHeld : Type 0 where
   -- the bytes still to come
   pub left : List ℕ
@@ -11,6 +12,7 @@ pub record SourceHeld : Type 0 where
   pub calls : ℕ
   pub faults : ℕ
 
+-- what contracts see of a sink in memory, for tests
 pub record SinkHeld : Type 0 where
   pub taken : List ℕ
   -- how many bytes it takes in all

@@ -7,6 +7,7 @@ use Rattle.run_tree.specs.Tree.{Tree, rate, member, members}
 use Rattle.run_tree.specs.Boundaries.{is_boundary}
 use Rattle.run_tree.specs.Runs.{runs}
 
+-- a pack and its members: their rates, their windows, and who runs at each tick
 pub record Server : Type 0 where
   pub scale : ℕ
   -- how many members it has, and their rates

@@ -5,7 +5,7 @@ use Rattle.trace_verdict.specs.declared.findings.Findings.{Findings}
 use Rattle.trace_verdict.specs.Findings.{is_preemption, is_migration}
 use Rattle.stat_report.specs.Report.{task_pairs, response}
 
--- they tell what the report counts of task j
+-- the findings are the preemptions, migrations and response of task j, as the report counts them
 pub record Tell (t : Trace) (j : ℕ) (f : Findings) : Type 0 where
   pub preemptions : f.preemptions ≡ task_pairs is_preemption t.set t.scale t.rows j
   pub migrations : f.migrations ≡ task_pairs is_migration t.set t.scale t.rows j

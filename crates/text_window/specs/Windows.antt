@@ -7,6 +7,7 @@ use Rattle.sched_edges.specs.Streams.{GaveAtMost, GaveCount}
 use Rattle.sched_edges.specs.declared.read.TakeFault.{TakeFault}
 use Rattle.sched_edges.specs.declared.read.TakeFault.TheVariants.{Read, TooLong, NoMemory}
 
+-- what contracts see of a window
 pub record WindowHeld : Type 0 where
   -- the bytes that were read and not yet gone past
   pub ahead : List ℕ

@@ -52,7 +52,7 @@ member_rate w l x = rate_of_named w l (named w l x)
 abbrev pub members_of : List Pack → List written.Member
 members_of packs = flat_map (λ p. p.members) packs
 
--- those of pack i and their number before it
+-- how many members stand in the packs before pack i
 abbrev pub before : List Pack → ℕ → ℕ
 before packs i = length (members_of (take i packs))
 
@@ -120,6 +120,7 @@ HasNone Has = (kind : TreeKind) (line : ℕ) → Has kind line → ⊥
 abbrev pub IsFirstOf : (TreeKind → ℕ → Type 0) → ℕ → TreeKind → Type 0
 IsFirstOf Has line kind = Has kind line × ((other : TreeKind) (at : ℕ) → Has other at → (line < at) ⊎ ((line ≡ at) × (rank kind ≤ rank other)))
 
+-- the text has no fault
 abbrev pub HasNoFault : Written → Type 0
 HasNoFault w = HasNone (HasFault w)
 

@@ -27,6 +27,7 @@ abbrev pub dual_member : List ℕ → Option Member
 dual_member [] = None
 dual_member (b ∷ word) = if b == 126 then member_number word else None
 
+-- the member of level l that a word names, if it is one
 abbrev pub member_of : ℕ → List ℕ → Option Member
 member_of zero word = leaf_member word
 member_of (suc l) word = dual_member word

@@ -18,9 +18,11 @@ pub record Masks : Type 0 where
 abbrev pub no_group : Group
 no_group = record { word = 0; mask = 0 }
 
+-- what stands where there is no such level
 abbrev pub no_span : Span
 no_span = record { from = 0; to = 0 }
 
+-- group number g
 abbrev pub group_at : List Group → ℕ → Group
 group_at groups g = slice_index_or groups g no_group
 
@@ -44,7 +46,7 @@ pub record IsSpanOf (t : Tree) (groups : List Group) (l : ℕ) (span : Span) : T
   pub rising : (g h : ℕ) → span.from ≤ g → g < h → h < span.to → (group_at groups g).word < (group_at groups h).word
   pub found : (p : ℕ) → IsPack t p → level t p ≡ l → (g : ℕ) × (span.from ≤ g) × (g < span.to) × IsOf (group_at groups g) p
 
--- so it is at the first n levels
+-- span l has the groups of level l, for the first n levels
 pub record AreSpansOf (t : Tree) (groups : List Group) (spans : List Span) (n : ℕ) : Type 0 where
   pub long : length spans ≡ n
   pub each : (l : ℕ) → l < n → IsSpanOf t groups l (slice_index_or spans l no_span)

@@ -4,7 +4,7 @@ use Rattle.sched_base.specs.Scale.{IsScale, Fits}
 use Rattle.wrap_sched.specs.declared.units.Slices.{Slices}
 use Rattle.wrap_sched.specs.Steps.{rates, unit_rounds}
 
--- those of a set that fits, by its scale
+-- the slices of a set that fits, and the pattern of a slice of one unit
 pub record AreSlices (s : Slices) : Type 0 where
   pub scale : IsScale s.set.now.tasks s.scale
   pub scale_fits : s.scale ≤ 2 ^ 94
