@@ -16,8 +16,9 @@ use std::sync::ledger::Blank;
 use std::thread::Threads;
 use unit_ledger::PostLedger;
 
-/// Executes a plan: runs each row of its schedule on its processor's gate and on its task's job. The gates' lists must be
-/// empty where they are told; else it is as `execute_on`.
+/// Executes a plan with gates that have run no row, where they tell their rows, and jobs that have done no work: `execute_on` from
+/// the start. `rounds` is the plan's number of rounds, `window` the number of rounds that a worker may be ahead, from 1 to 1024.
+/// Refused for want of memory before any gate is called; else at a failure of a gate or a job, which is named.
 pub fn execute<G: Gate + Send, X: Threads + Wait + Sync>(
     rt: &X,
     alloc: Global,

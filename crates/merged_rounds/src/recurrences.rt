@@ -18,8 +18,11 @@ use std::alloc::Global;
 /// When rounds come again: from tick `from` on a schedule is the same so many ticks and so many rounds later.
 #[derive(Clone, Copy)]
 pub struct Recurrence {
+    /// The tick from which on they come again.
     pub from: u128,
+    /// After how many ticks they do.
     pub ticks: u128,
+    /// How many rounds those ticks have.
     pub rounds: u64,
 }
 

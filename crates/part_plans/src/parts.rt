@@ -13,14 +13,17 @@ use run_tree::Plan;
 use sched_base::{Leaf, NoMemory};
 use std::alloc::Global;
 
-/// What a part of a plan does alone: a plan of its own, in which a tick is `factor` ticks of the whole plan. Of each of its nodes by its
-/// number the node of the whole plan whose like it is, and what that one shows, `Leaf::Empty` where it is no leaf; and of each of its packs of
-/// level 0 the number of that one among those of the whole plan.
+/// What a part of a plan does alone.
 pub struct PartPlan {
+    /// The part's own plan.
     pub plan: Plan,
+    /// How many ticks of the whole plan a tick of the part's is.
     pub factor: u128,
+    /// Of each node of the part, by its number: the node of the whole plan that it is.
     pub onto: Vec<u32>,
+    /// Of each node of the part, by its number: the leaf that the whole plan shows for it; `Leaf::Empty` where it is none.
     pub leaves: Vec<Leaf>,
+    /// Of each of the part's packs of level 0, in order: its number among those of the whole plan.
     pub packs: Vec<u32>,
 }
 
@@ -36,11 +39,14 @@ impl Drop for PartPlan {
     }
 }
 
-/// The parts into which a plan falls, and of each node of the plan by its number its part, and its like there.
+/// The parts into which a plan falls.
 #[derive(Drop)]
 pub struct PartPlans {
+    /// The plans of the parts.
     pub parts: Vec<PartPlan>,
+    /// Of each node of the plan, by its number: the part in which it stands.
     pub part: Vec<u32>,
+    /// Of each node of the plan, by its number: its number in that part's own plan.
     pub like: Vec<u32>,
 }
 

@@ -17,7 +17,7 @@ pub struct ScaleTooLarge {
     pub at: u32,
 }
 
-/// The scale of a set, in ticks per unit: the least positive number that every period divides, 1 for no tasks.
+/// The scale of a set, in ticks per unit: the least positive number that every period divides, 1 for no tasks. Refused past 2^94.
 pub fn scale_of(set: &TaskSet) -> Result<u128, ScaleTooLarge>
     ensures scale { IfOk result (λ scale. IsScale set.now.tasks scale) }
     ensures within { IfOk result (λ scale. scale ≤ 2 ^ 94) }

@@ -16,6 +16,9 @@ use std::alloc::Global;
 
 /// Compiles a set: its scale, and the tree that has the tasks by first fit and idle leaves at level 0, and the duals by
 /// first fit at each further level.
+///
+/// Refused where the scale is past 2^94 ticks per unit, with the first task that brings it past; else where the tasks ask for
+/// more than the processors have, with both sums in ticks per unit.
 pub fn compile(alloc: Global, set: TaskSet) -> Result<Plan, CompileFault>
     ensures set { IfOk result (λ plan. plan.set ≡ set) }
     ensures scale { IfOk result (λ plan. HasScale set plan.tree.scale) }

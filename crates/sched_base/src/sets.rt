@@ -72,7 +72,7 @@ impl TaskSet {
         }
     }
 
-    /// Adds a task at the end, first released at unit 0.
+    /// Adds a task at the end, first released at unit 0: its work and its period in units. A want of memory leaves the set as it was.
     pub fn add(&mut self, name: &[u8], work: u64, period: u64) -> Result<(), NoMemory>
         requires room { length self.old.tasks < task_limit }
         requires lawful { is_lawful_name name.now ≡ true }
@@ -89,7 +89,8 @@ impl TaskSet {
         self.add_late(name, work, period, 0)
     }
 
-    /// Adds a task at the end, first released at the offset.
+    /// Adds a task at the end, first released at the offset: its work, its period and its offset in units. A want of memory leaves the set
+    /// as it was.
     pub fn add_late(
         &mut self,
         name: &[u8],

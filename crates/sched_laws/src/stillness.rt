@@ -10,7 +10,6 @@ ghost use Rattle.run_tree.specs.TreeOfSet.{IsTreeOf};
 
 /// The law between events: at a tick below 2^33 units that is no event, the same nodes run as at the tick before, and each
 /// processor keeps its pack.
-
 pub fn still_law()
     ensures nodes { (s : SetContents) → IsLawful s → (t : Tree) → IsTreeOf s t → (n : ℕ) → n + 1 < 2 ^ 33 * t.scale →
         is_event (set_boundary s.tasks) t (n + 1) ≡ false → (x : ℕ) → x < length t.nodes →

@@ -21,7 +21,7 @@ impl Model for Ends {
 }
 
 impl Ends {
-    /// So many times 0.
+    /// So many periods, of each of which the end is 0 so far.
     pub fn new(alloc: Global, count: usize) -> Result<Ends, AllocError>
         ensures { IfOk result (λ e. e ≡ replicate count 0) }
     {
@@ -33,14 +33,14 @@ impl Ends {
         })
     }
 
-    /// How many there are.
+    /// The number of periods.
     pub fn len(&self) -> usize
         ensures { result ≡ length self.now }
     {
         self.short.len() + self.long.len()
     }
 
-    /// Number i.
+    /// The end kept of period i, in ticks.
     pub fn get(&self, i: usize) -> u128
         requires { i < length self.now }
         ensures { result ≡ slice_index self.now i }

@@ -204,7 +204,7 @@ impl Model for RowList {
 }
 
 impl RowList {
-    /// No rows.
+    /// A list without rows.
     pub fn new(alloc: Global) -> RowList
         ensures { result ≡ [] }
     {
@@ -214,7 +214,7 @@ impl RowList {
         }
     }
 
-    /// These rows.
+    /// The list of these rows.
     pub fn of(alloc: Global, rows: Vec<Row>) -> Result<RowList, NoMemory>
         ensures { IfOk result (λ l. l ≡ rows.items) }
     {
@@ -232,7 +232,7 @@ impl RowList {
         self.short.len() + self.long.len()
     }
 
-    /// Row i.
+    /// The row at index i.
     #[inline(always)]
     pub fn get(&self, i: usize) -> Row
         requires { i < length self.now }
@@ -246,7 +246,7 @@ impl RowList {
         }
     }
 
-    /// Where row i starts.
+    /// The tick at which the row at index i starts.
     #[inline(always)]
     pub fn start(&self, i: usize) -> u128
         requires { i < length self.now }
@@ -260,7 +260,7 @@ impl RowList {
         }
     }
 
-    /// The short rows, where they are all.
+    /// The rows as short ones, where all of them are short.
     pub fn all_short(&self) -> Option<&[ShortRow]>
         ensures { IfSome result (λ short. self.now ≡ map row_for short.now) }
     {
