@@ -16,7 +16,8 @@ use Rattle.merged_rounds.specs.Laps.{IsAllTold, IsSumUpTo}
 use Rattle.merged_rounds.proofs.LapLemmas.{row_shows}
 use Rattle.round_looks.specs.Looks.{leaf_at}
 use Rattle.partition_rounds.specs.declared.partitions.Partition.{Partition}
-use Rattle.partition_rounds.specs.Merging.{IsMergingOf, IsShownUpTo}
+use Rattle.part_rounds.specs.Merging.{IsShownUpTo}
+use Rattle.partition_rounds.specs.Merging.{IsMergingOf}
 use Rattle.partition_rounds.specs.OwnRounds.{IsPartitionOf}
 
 module _ (p : PlanContents) (tick : ℕ) (leaves : List (Option Leaf)) (sum : RoundSum) where

@@ -1,23 +1,12 @@
 -- The rounds of a partitioned plan, merged while they go by.
-use Rattle.std.specs.Prelude.{ℕ, ◌<◌, ◌≡◌, ◌⊎◌, true, List, Option, length}
+use Rattle.std.specs.Prelude.{◌≡◌, ◌⊎◌, List, Option, length}
 use Rattle.sched_base.specs.declared.rows.Leaf.{Leaf}
-use Rattle.sched_base.specs.declared.rows.Row.{Row}
-use Rattle.sched_base.specs.Tables.{lane_of}
 use Rattle.run_tree.specs.Plans.{PlanContents}
-use Rattle.event_core.specs.Rounds.{IsRoundUpTo}
-use Rattle.merged_rows.specs.Columns.{ends_showing}
 use Rattle.merged_rounds.specs.declared.sums.RoundSum.{RoundSum}
-use Rattle.merged_rounds.specs.Laps.{IsAllTold, IsSumUpTo}
-use Rattle.round_looks.specs.Looks.{leaf_at}
+use Rattle.merged_rounds.specs.Laps.{IsSumUpTo}
+use Rattle.part_rounds.specs.Merging.{IsShownUpTo}
 use Rattle.partition_rounds.specs.declared.partitions.Partition.{Partition}
 use Rattle.partition_rounds.specs.OwnRounds.{IsPartitionOf}
-
--- A round ended at this tick. Of each processor it is told what it shows there, and its last row shows the same.
-pub record IsShownUpTo (p : PlanContents) (tick : ℕ) (leaves : List (Option Leaf)) (so_far : RoundSum) : Type 0 where
-  pub start : ℕ
-  pub round : IsRoundUpTo p start tick
-  pub told : IsAllTold p start tick leaves
-  pub last : (q : ℕ) (none : Row) → q < p.tree.processors → ends_showing (lane_of so_far.rows.lanes q) (leaf_at p start tick q none) ≡ true
 
 -- The rounds of a partitioned plan are merged up to its tick, and where one ended there, its leaves are known.
 pub record IsMergingOf (p : PlanContents) (part : Partition) (leaves : List (Option Leaf)) (so_far : RoundSum) : Type 0 where
