@@ -102,6 +102,7 @@ pub extern "C" fn furnacelime_take(
     ensures over { result ≡ 65 → Goes book.book kept.new.book (λ old new. IsAllPosted old new processor) }
     ensures halted { result ≡ 67 → Goes book.book kept.new.book IsHalted }
     ensures wrong { result ≡ 64 → Goes book.book kept.new.book (λ old new. CantTake old new processor) }
+    ensures waiting { result ≡ 66 → row.new ≡ record row.old { waits_for = row.new.waits_for } }
     ensures untold { result ≢ 0 → result ≢ 66 → row.new ≡ row.old }
     ensures status { (result ≡ 0) ⊎ ((result ≡ 64) ⊎ ((result ≡ 65) ⊎ ((result ≡ 66) ⊎ (result ≡ 67)))) }
 {
@@ -148,6 +149,7 @@ pub extern "C" fn furnacelime_post_and_take(
     ensures over { result ≡ 65 → Goes book.book kept.new.book (λ old new. PostsAndEnds old new processor) }
     ensures halted { result ≡ 67 → Goes book.book kept.new.book (λ old new. PostsAndHalts old new processor) }
     ensures wrong { result ≡ 64 → Goes book.book kept.new.book (λ old new. CantPostAndTake old new processor) }
+    ensures waiting { result ≡ 66 → row.new ≡ record row.old { waits_for = row.new.waits_for } }
     ensures untold { result ≢ 0 → result ≢ 66 → row.new ≡ row.old }
     ensures status { (result ≡ 0) ⊎ ((result ≡ 64) ⊎ ((result ≡ 65) ⊎ ((result ≡ 66) ⊎ (result ≡ 67)))) }
 {
@@ -267,6 +269,7 @@ fn take_turn(book: &mut StepBook, processor: u32, row: &mut BookRow) -> u8
     ensures over { result ≡ 65 → IsAllPosted book.old book.new processor }
     ensures halted { result ≡ 67 → IsHalted book.old book.new }
     ensures wrong { result ≡ 64 → CantTake book.old book.new processor }
+    ensures waiting { result ≡ 66 → row.new ≡ record row.old { waits_for = row.new.waits_for } }
     ensures untold { result ≢ 0 → result ≢ 66 → row.new ≡ row.old }
     ensures status { (result ≡ 0) ⊎ ((result ≡ 64) ⊎ ((result ≡ 65) ⊎ ((result ≡ 66) ⊎ (result ≡ 67)))) }
 {
@@ -312,6 +315,7 @@ fn post_and_take(book: &mut StepBook, processor: u32, row: &mut BookRow) -> u8
     ensures over { result ≡ 65 → PostsAndEnds book.old book.new processor }
     ensures halted { result ≡ 67 → PostsAndHalts book.old book.new processor }
     ensures wrong { result ≡ 64 → CantPostAndTake book.old book.new processor }
+    ensures waiting { result ≡ 66 → row.new ≡ record row.old { waits_for = row.new.waits_for } }
     ensures untold { result ≢ 0 → result ≢ 66 → row.new ≡ row.old }
     ensures status { (result ≡ 0) ⊎ ((result ≡ 64) ⊎ ((result ≡ 65) ⊎ ((result ≡ 66) ⊎ (result ≡ 67)))) }
 {
