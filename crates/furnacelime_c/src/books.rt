@@ -194,7 +194,7 @@ pub extern "C" fn furnacelime_exec_tell(
 ) -> u8
     requires open { book.book ≢ None }
     requires empty { kept.old.book ≡ None }
-    ensures told { result ≡ 0 → Goes book.book kept.new.book (λ old new. TellsEnd old new posted.new totals.new end.new) }
+    ensures told { result ≡ 0 → Goes book.book kept.new.book (λ old new. TellsEnd old new posted.old posted.new totals.old totals.new end.new) }
     ensures short { result ≢ 0 → (result ≡ 64) × Goes book.book kept.new.book (λ old new. IsShortOf old new (length posted.old) (length totals.old)) }
     ensures untold { result ≢ 0 → (posted.new ≡ posted.old) × ((totals.new ≡ totals.old) × (end.new ≡ end.old)) }
 {
@@ -357,7 +357,7 @@ fn halt_turn(book: &mut StepBook, processor: u32, why: u32) -> u8
 
 // Tells how far a book is.
 fn tell_end(book: &StepBook, posted: &mut [u64], totals: &mut [Halves], end: &mut BookEnd) -> u8
-    ensures told { result ≡ 0 → TellsEnd book.now book.now posted.new totals.new end.new }
+    ensures told { result ≡ 0 → TellsEnd book.now book.now posted.old posted.new totals.old totals.new end.new }
     ensures short { result ≢ 0 → (result ≡ 64) × IsShortOf book.now book.now (length posted.old) (length totals.old) }
     ensures untold { result ≢ 0 → (posted.new ≡ posted.old) × ((totals.new ≡ totals.old) × (end.new ≡ end.old)) }
 {
