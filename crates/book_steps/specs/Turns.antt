@@ -3,10 +3,10 @@ use Rattle.std.specs.Prelude.{ℕ, ◌≡◌, ◌<◌, ◌+◌, ◌-◌, List, S
 use Rattle.sched_base.specs.declared.rows.Leaf.{Leaf}
 use Rattle.sched_base.specs.declared.rows.Leaf.TheVariants.{Task, Wait as Waiting, Idle, Empty}
 use Rattle.sched_base.specs.declared.rows.Row.{Row}
-use Rattle.sched_base.specs.Tables.{RowAt}
+use Rattle.sched_base.specs.Tables.{RowAt, rounds_in}
 use Rattle.run_tree.specs.Plans.{rounds_of}
 use Rattle.book_machine.specs.declared.events.Event.TheVariants.{Take, Post, Halt}
-use Rattle.book_machine.specs.Machine.{posted_at, MayTake, IsLegal, WaitsFor, after}
+use Rattle.book_machine.specs.Machine.{posted_at, least_posted, MayTake, IsLegal, WaitsFor, after}
 use Rattle.book_machine.specs.Reached.{OutRow}
 use Rattle.plan_rounds.specs.PlanRows.{plan_rows}
 use Rattle.plan_rounds.specs.Parts.{processor}
@@ -27,6 +27,8 @@ pub record Waits (old new : BookHeld) (p lane : ℕ) : Type 0 where
   pub not_legal : ¬ (IsLegal (plan_rows old.plan) old.window old.state (Take (processor p)))
   pub reason : WaitsFor (plan_rows old.plan) old.window old.state p lane
   pub behind : posted_at old.state lane < posted_at old.state p
+  -- the processor's next round is computed, unless the window is the reason
+  pub held : posted_at old.state p < least_posted old.state + old.window → posted_at old.state p < rounds_in new.table.lanes
   pub book : new ≡ record old { table = new.table }
 
 -- what a take on processor p says

@@ -56,6 +56,7 @@ returns-in-Some c =
       not_legal = λ legal. waiting_may_not (plan_rows old.plan) old.window old.state p lane legal.0 reason legal.1;
       reason = reason;
       behind = subst (λ (b : BookHeld). posted_at b.state lane < posted_at b.state p) same c.in-Some.ensures.behind;
+      held = c.compute_for.ensures.held c.if-not-compute_for.false;
       book = same;
     }
 
