@@ -1,5 +1,5 @@
 -- What one mode does to the gates and to the jobs.
-use Rattle.std.proofs.Common.{◌≡◌, ℕ, zero, suc, ◌-◌, ◌<◌, ◌≤◌, nat_lt, if◌then◌else◌, true, false, inl, inr, List, [], ◌∷◌, Option, Some, None}
+use Rattle.std.proofs.Common.{◌≡◌, ℕ, zero, suc, ◌<◌, ◌≤◌, nat_lt, if◌then◌else◌, true, false, inl, inr, List, [], ◌∷◌, Option, Some, None}
 use Rattle.std.proofs.Common.{Result, Ok, Err, OnOk, IsOk, length, take, option_map}
 use Rattle.std.proofs.Common.{refl, sym, ap, ◌∙◌, subst, arith, rules, lt-ltb, eq-eqb}
 use Rattle.std.specs.Prelude.{slice_get}
@@ -192,17 +192,17 @@ module _ {G J : Type 0} (gate : GateTells G) (job : JobTells J) where
   }
 
   -- whatever a mode answers, all are back
-  pub back_mode : (p : PlanContents) (answer : Result Executed ExecFault) (old new : CrewHeld G J) → RanMode gate job p answer old new →
-      AreBack gate job old new
-  back_mode p answer old new run =
-      back_on old run.begun new (back_begun p.set.tasks old run.begun run.begins) (back_outcome p run.window run.begun new answer run.outcome)
+  pub back_mode : (p : PlanContents) (window : ℕ) (answer : Result Executed ExecFault) (old new : CrewHeld G J) → RanMode gate job p window answer old new
+      → AreBack gate job old new
+  back_mode p window answer old new run =
+      back_on old run.begun new (back_begun p.set.tasks old run.begun run.begins) (back_outcome p window run.begun new answer run.outcome)
 
   -- ---- a mode that was run whole
 
-  module _ (p : PlanContents) (h : IsPlan p) (e : Executed) (old new : CrewHeld G J) (run : RanMode gate job p (Ok e) old new) where
+  module _ (p : PlanContents) (window : ℕ) (h : IsPlan p) (e : Executed) (old new : CrewHeld G J) (run : RanMode gate job p window (Ok e) old new) where
     pub mode_gates : GatesGrew gate.ran p old.kits new.kits
     mode_gates = subst (λ (kits : List (Kit G)). GatesGrew gate.ran p kits new.kits) run.begins.gates
-        (gates_grew gate.ran gate.faults job.id job.used job.made job.faults p run.window h run.begun.kits new.kits run.begun.places new.places (Ok e)
+        (gates_grew gate.ran gate.faults job.id job.used job.made job.faults p window h run.begun.kits new.kits run.begun.places new.places (Ok e)
         run.outcome)
 
     pub mode_jobs : (i : ℕ) (j : J) → JobAt old.places i j → (now : J) × JobAt new.places i now × (job.id now ≡ job.id j)
@@ -229,8 +229,8 @@ module _ {G J : Type 0} (gate : GateTells G) (job : JobTells J) where
               )
         ]
 
-  pub mode_run : (m : Mode) (e : Executed) (old new : CrewHeld G J) → RanMode gate job m.plan (Ok e) old new → IsRunOf m e
-  mode_run m e old new run = record { table = run.outcome.2.table; totals = run.outcome.2.totals; valid = run.outcome.2.valid }
+  pub mode_run : (m : Mode) (window : ℕ) (e : Executed) (old new : CrewHeld G J) → RanMode gate job m.plan window (Ok e) old new → IsRunOf m e
+  mode_run m window e old new run = record { table = run.outcome.2.table; totals = run.outcome.2.totals; valid = run.outcome.2.valid }
 
   -- ---- a mode that may have stopped
 
@@ -256,16 +256,16 @@ module _ {G J : Type 0} (gate : GateTells G) (job : JobTells J) where
       (g, ap (λ (kits : List (Kit G)). slice_get kits q) o.0 ∙ at, (0, sym (grown-nil (gate.ran g))))
 
   -- whatever a mode answers, each gate ran first rows of its processor
-  pub mode_first : (p : PlanContents) (answer : Result Executed ExecFault) (old new : CrewHeld G J) → RanMode gate job p answer old new
+  pub mode_first : (p : PlanContents) (window : ℕ) (answer : Result Executed ExecFault) (old new : CrewHeld G J) → RanMode gate job p window answer old new
       → (q : ℕ) (g : G) → q < p.tree.processors → KitAt old.kits q g
       → (now : G) × KitAt new.kits q now × ((k : ℕ) × (gate.ran now ≡ grown (gate.ran g) (take k (lane_of (plan_rows p) q))))
-  mode_first p answer old new run q g within at =
-      first_outcome p run.window run.begun new answer run.outcome q g within (ap (λ (kits : List (Kit G)). slice_get kits q) run.begins.gates ∙ at)
+  mode_first p window answer old new run q g within at =
+      first_outcome p window run.begun new answer run.outcome q g within (ap (λ (kits : List (Kit G)). slice_get kits q) run.begins.gates ∙ at)
 
   -- the gate that is named failed
-  pub gate_risen : (p : PlanContents) (q : ℕ) (r : Row) (n : ℕ) (old new : CrewHeld G J) → RanMode gate job p (Err (exec.Gate q r n)) old new
+  pub gate_risen : (p : PlanContents) (window q : ℕ) (r : Row) (n : ℕ) (old new : CrewHeld G J) → RanMode gate job p window (Err (exec.Gate q r n)) old new
       → (g now : G) → KitAt old.kits q g → KitAt new.kits q now → HasRisen (gate.faults g) (gate.faults now)
-  gate_risen p q r n old new run g now at there =
+  gate_risen p window q r n old new run g now at there =
       let ran = run.outcome.1 in
       let failed = run.outcome.2.0 in
       let width = ran.width in
@@ -277,10 +277,10 @@ module _ {G J : Type 0} (gate : GateTells G) (job : JobTells J) where
       subst (λ (x : G). HasRisen (gate.faults g) (gate.faults x)) (same_gate new.kits q found now here there) risen
 
   -- the job that is named failed
-  pub job_risen : (p : PlanContents) → IsPlan p → (t q : ℕ) (r : Row) (n : ℕ) (old new : CrewHeld G J) → AreFilled p.tree.processors old.kits
-      → RanMode gate job p (Err (exec.Job t q r n)) old new
+  pub job_risen : (p : PlanContents) (window : ℕ) → IsPlan p → (t q : ℕ) (r : Row) (n : ℕ) (old new : CrewHeld G J) → AreFilled p.tree.processors old.kits
+      → RanMode gate job p window (Err (exec.Job t q r n)) old new
       → (j now : J) → JobAt old.places t j → JobAt new.places t now → HasRisen (job.faults j) (job.faults now)
-  job_risen p h t q r n old new filled run j now at there =
+  job_risen p window h t q r n old new filled run j now at there =
       let ran = run.outcome.1 in
       let lanes = run.outcome.0 in
       let lane = lane_in lanes q in

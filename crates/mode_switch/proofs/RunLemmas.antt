@@ -81,109 +81,6 @@ pub wide_as : (m : ℕ) (mode : Mode) → IsMode m mode → mode.plan.tree.proce
 wide_as m mode is = is.lawful.tree.processors ∙ is.can_join.same_processors
 
 module _ {G J : Type 0} (gate : GateTells G) (job : JobTells J) where
-  -- one mode more
-  pub ran_next : (modes : List Mode) (runs : List Executed) (m : Mode) (e : Executed) (old between new : CrewHeld G J) → RanModes gate job modes runs old
-      between
-      → RanMode gate job m.plan (Ok e) between new → RanModes gate job (modes ++ m ∷ []) (runs ++ e ∷ []) old new
-  ran_next [] [] m e old between new ran run = (new, subst (λ (r : CrewHeld G J). RanMode gate job m.plan (Ok e) r new) ran run, refl)
-  ran_next [] (x ∷ runs) m e old between new ran run = absurd ran
-  ran_next (x ∷ modes) [] m e old between new ran run = absurd ran
-  ran_next (x ∷ modes) (y ∷ runs) m e old between new ran run = (ran.0, ran.1, ran_next modes runs m e ran.0 between new ran.2 run)
-
-  -- as many answers as modes
-  pub as_many : (modes : List Mode) (runs : List Executed) (old new : CrewHeld G J) → RanModes gate job modes runs old new → length runs ≡ length modes
-  as_many [] [] old new ran = refl
-  as_many [] (e ∷ runs) old new ran = absurd ran
-  as_many (m ∷ modes) [] old new ran = absurd ran
-  as_many (m ∷ modes) (e ∷ runs) old new ran = ap suc (as_many modes runs ran.0 new ran.2)
-
-  pub modes_back : (modes : List Mode) (runs : List Executed) (old new : CrewHeld G J) → RanModes gate job modes runs old new → AreBack gate job old new
-  modes_back [] [] old new ran = subst (λ (r : CrewHeld G J). AreBack gate job old r) (sym ran) (back_same gate job old)
-  modes_back [] (e ∷ runs) old new ran = absurd ran
-  modes_back (m ∷ modes) [] old new ran = absurd ran
-  modes_back (m ∷ modes) (e ∷ runs) old new ran =
-      back_on gate job old ran.0 new (back_mode gate job m.plan (Ok e) old ran.0 ran.1) (modes_back modes runs ran.0 new ran.2)
-
-  pub grew_through : (m : ℕ) (modes : List Mode) → AllByRecursion (IsMode m) modes → (runs : List Executed) (old new : CrewHeld G J) →
-      RanModes gate job modes runs old new
-      → GatesGrewThrough gate.ran m modes old.kits new.kits
-  grew_through m [] all [] old new ran q g within at = (g, ap (λ (r : CrewHeld G J). slice_get r.kits q) ran ∙ at, sym (grown-nil (gate.ran g)))
-  grew_through m [] all (e ∷ runs) old new ran q g within at = absurd ran
-  grew_through m (mode ∷ modes) all [] old new ran q g within at = absurd ran
-  grew_through m (mode ∷ modes) all (e ∷ runs) old new ran q g within at =
-      let wide = wide_as m mode all.0 in
-      let (h, here, first) = mode_gates gate job mode.plan all.0.lawful e old ran.0 ran.1 q g (omega (arith, wide, within)) at in
-      let (now, there, more) = grew_through m modes all.1 runs ran.0 new ran.2 q h within here in (
-        now,
-        there,
-        more ∙ ap (λ o. grown o (rows_through modes q)) first ∙ grown-grown (gate.ran g) (lane_of (plan_rows mode.plan) q) (rows_through modes q),
-      )
-
-  pub runs_whole : (modes : List Mode) (runs : List Executed) (old new : CrewHeld G J) → RanModes gate job modes runs old new → AllZip IsRunOf modes runs
-  runs_whole [] [] old new ran = tt
-  runs_whole [] (e ∷ runs) old new ran = absurd ran
-  runs_whole (m ∷ modes) [] old new ran = absurd ran
-  runs_whole (m ∷ modes) (e ∷ runs) old new ran = (mode_run gate job m e old ran.0 ran.1, runs_whole modes runs ran.0 new ran.2)
-
-  pub jobs_last : (m : ℕ) (modes : List Mode) → AllByRecursion (IsMode m) modes → (runs : List Executed) (old new : CrewHeld G J) → RanModes gate job modes
-      runs old new
-      → JobsUsedLast job modes old.places new.places
-  jobs_last m [] all [] old new ran i j at = (j, ap (λ (r : CrewHeld G J). slice_get r.places i) ran ∙ at, refl, refl)
-  jobs_last m [] all (e ∷ runs) old new ran i j at = absurd ran
-  jobs_last m (mode ∷ modes) all [] old new ran i j at = absurd ran
-  jobs_last m (mode ∷ modes) all (e ∷ runs) old new ran i j at =
-      let (k, here, own, worked) = mode_jobs gate job mode.plan all.0.lawful e old ran.0 ran.1 i j at in
-      let (now, there, own', worked') = jobs_last m modes all.1 runs ran.0 new ran.2 i k here in
-      (now, there, own' ∙ own, worked' ∙ ap (used_after modes i) worked)
-
-  -- ---- whatever is answered
-
-  stopped_first : (m : ℕ) (modes : List Mode) → AllByRecursion (IsMode m) modes → (j : ℕ) (why : ExecFault) (old new : CrewHeld G J) →
-      StopsIn gate job modes j why old new
-      → GatesGrewFirst gate.ran m modes old.kits new.kits
-  stopped_first m modes all j why old new stops q g within at =
-      let mode = stops.mode in
-      let lane = lane_of (plan_rows mode.plan) q in
-      let (h, here, grew) = grew_through m (take j modes) (all_take (IsMode m) modes j all) stops.runs old stops.between stops.whole q g within at in
-      let wide = wide_as m mode (all_get (IsMode m) modes j mode all stops.at) in
-      let (now, there, (k, first)) = mode_first gate job mode.plan (Err why) stops.between new stops.stopped q h (omega (arith, wide, within)) here in
-      let (n, front) = first_rows_of modes j mode q k stops.at in (
-        now,
-        there,
-        (
-          n,
-          first ∙ ap (λ o. grown o (take k lane)) grew ∙ grown-grown (gate.ran g) (rows_through (take j modes) q) (take k lane) ∙ ap (grown (gate.ran g))
-              front,
-        ),
-      )
-
-  -- each gate ran first rows of all
-  pub ran_first : (m : ℕ) (modes : List Mode) → AllByRecursion (IsMode m) modes → (old new : CrewHeld G J) (answer : Result (List Executed) ModesFault)
-      → ModesOutcome gate job modes old new answer → GatesGrewFirst gate.ran m modes old.kits new.kits
-  ran_first m modes all old new (Ok runs) o q g within at =
-      let (now, there, grew) = grew_through m modes all runs old new o q g within at in
-      let rows = rows_through modes q in
-      (now, there, (length rows, grew ∙ ap (grown (gate.ran g)) (sym (take_all (length rows) rows (omega arith)))))
-  ran_first m modes all old new (Err (fault.Gate j x r)) o q g within at = stopped_first m modes all j (exec.Gate x r o.0) old new o.1 q g within at
-  ran_first m modes all old new (Err (fault.Job j t x r)) o q g within at = stopped_first m modes all j (exec.Job t x r o.0) old new o.1 q g within at
-  ran_first m modes all old new (Err fault.NoMemory) (inl same) q g within at =
-      (g, ap (λ (r : CrewHeld G J). slice_get r.kits q) same ∙ at, (0, sym (grown-nil (gate.ran g))))
-  ran_first m modes all old new (Err fault.NoMemory) (inr (j, stops)) q g within at = stopped_first m modes all j exec.NoMemory old new stops q g within at
-
-  stopped_back : (modes : List Mode) (j : ℕ) (why : ExecFault) (old new : CrewHeld G J) → StopsIn gate job modes j why old new → AreBack gate job old new
-  stopped_back modes j why old new stops =
-      back_on gate job old stops.between new (modes_back (take j modes) stops.runs old stops.between stops.whole)
-      (back_mode gate job stops.mode.plan (Err why) stops.between new stops.stopped)
-
-  -- all are back
-  pub are_back : (modes : List Mode) (old new : CrewHeld G J) (answer : Result (List Executed) ModesFault) → ModesOutcome gate job modes old new answer →
-      AreBack gate job old new
-  are_back modes old new (Ok runs) o = modes_back modes runs old new o
-  are_back modes old new (Err (fault.Gate j x r)) o = stopped_back modes j (exec.Gate x r o.0) old new o.1
-  are_back modes old new (Err (fault.Job j t x r)) o = stopped_back modes j (exec.Job t x r o.0) old new o.1
-  are_back modes old new (Err fault.NoMemory) (inl same) = subst (λ (r : CrewHeld G J). AreBack gate job old r) (sym same) (back_same gate job old)
-  are_back modes old new (Err fault.NoMemory) (inr (j, stops)) = stopped_back modes j exec.NoMemory old new stops
-
   -- kits that were filled are filled again, and jobs are in their own places
   pub filled_after : (n : ℕ) (old new : CrewHeld G J) → AreBack gate job old new → AreFilled n old.kits → AreFilled n new.kits
   filled_after n old new back filled q within =
@@ -197,28 +94,131 @@ module _ {G J : Type 0} (gate : GateTells G) (job : JobTells J) where
       let (now, there, same, later) = back.jobs t j at in
       (now, there, same ∙ is)
 
+module _ {G J : Type 0} (gate : GateTells G) (job : JobTells J) (window : ℕ) where
+  -- one mode more
+  pub ran_next : (modes : List Mode) (runs : List Executed) (m : Mode) (e : Executed) (old between new : CrewHeld G J)
+      → RanModes gate job modes window runs old between → RanMode gate job m.plan window (Ok e) between new
+      → RanModes gate job (modes ++ m ∷ []) window (runs ++ e ∷ []) old new
+  ran_next [] [] m e old between new ran run = (new, subst (λ (r : CrewHeld G J). RanMode gate job m.plan window (Ok e) r new) ran run, refl)
+  ran_next [] (x ∷ runs) m e old between new ran run = absurd ran
+  ran_next (x ∷ modes) [] m e old between new ran run = absurd ran
+  ran_next (x ∷ modes) (y ∷ runs) m e old between new ran run = (ran.0, ran.1, ran_next modes runs m e ran.0 between new ran.2 run)
+
+  -- as many answers as modes
+  pub as_many : (modes : List Mode) (runs : List Executed) (old new : CrewHeld G J) → RanModes gate job modes window runs old new → length runs ≡ length modes
+  as_many [] [] old new ran = refl
+  as_many [] (e ∷ runs) old new ran = absurd ran
+  as_many (m ∷ modes) [] old new ran = absurd ran
+  as_many (m ∷ modes) (e ∷ runs) old new ran = ap suc (as_many modes runs ran.0 new ran.2)
+
+  pub modes_back : (modes : List Mode) (runs : List Executed) (old new : CrewHeld G J) → RanModes gate job modes window runs old new → AreBack gate job old new
+  modes_back [] [] old new ran = subst (λ (r : CrewHeld G J). AreBack gate job old r) (sym ran) (back_same gate job old)
+  modes_back [] (e ∷ runs) old new ran = absurd ran
+  modes_back (m ∷ modes) [] old new ran = absurd ran
+  modes_back (m ∷ modes) (e ∷ runs) old new ran =
+      back_on gate job old ran.0 new (back_mode gate job m.plan window (Ok e) old ran.0 ran.1) (modes_back modes runs ran.0 new ran.2)
+
+  pub grew_through : (m : ℕ) (modes : List Mode) → AllByRecursion (IsMode m) modes → (runs : List Executed) (old new : CrewHeld G J) →
+      RanModes gate job modes window runs old new
+      → GatesGrewThrough gate.ran m modes old.kits new.kits
+  grew_through m [] all [] old new ran q g within at = (g, ap (λ (r : CrewHeld G J). slice_get r.kits q) ran ∙ at, sym (grown-nil (gate.ran g)))
+  grew_through m [] all (e ∷ runs) old new ran q g within at = absurd ran
+  grew_through m (mode ∷ modes) all [] old new ran q g within at = absurd ran
+  grew_through m (mode ∷ modes) all (e ∷ runs) old new ran q g within at =
+      let wide = wide_as m mode all.0 in
+      let (h, here, first) = mode_gates gate job mode.plan window all.0.lawful e old ran.0 ran.1 q g (omega (arith, wide, within)) at in
+      let (now, there, more) = grew_through m modes all.1 runs ran.0 new ran.2 q h within here in (
+        now,
+        there,
+        more ∙ ap (λ o. grown o (rows_through modes q)) first ∙ grown-grown (gate.ran g) (lane_of (plan_rows mode.plan) q) (rows_through modes q),
+      )
+
+  pub runs_whole : (modes : List Mode) (runs : List Executed) (old new : CrewHeld G J) → RanModes gate job modes window runs old new → AllZip IsRunOf modes runs
+  runs_whole [] [] old new ran = tt
+  runs_whole [] (e ∷ runs) old new ran = absurd ran
+  runs_whole (m ∷ modes) [] old new ran = absurd ran
+  runs_whole (m ∷ modes) (e ∷ runs) old new ran = (mode_run gate job m window e old ran.0 ran.1, runs_whole modes runs ran.0 new ran.2)
+
+  pub jobs_last : (m : ℕ) (modes : List Mode) → AllByRecursion (IsMode m) modes → (runs : List Executed) (old new : CrewHeld G J)
+      → RanModes gate job modes window runs old new → JobsUsedLast job modes old.places new.places
+  jobs_last m [] all [] old new ran i j at = (j, ap (λ (r : CrewHeld G J). slice_get r.places i) ran ∙ at, refl, refl)
+  jobs_last m [] all (e ∷ runs) old new ran i j at = absurd ran
+  jobs_last m (mode ∷ modes) all [] old new ran i j at = absurd ran
+  jobs_last m (mode ∷ modes) all (e ∷ runs) old new ran i j at =
+      let (k, here, own, worked) = mode_jobs gate job mode.plan window all.0.lawful e old ran.0 ran.1 i j at in
+      let (now, there, own', worked') = jobs_last m modes all.1 runs ran.0 new ran.2 i k here in
+      (now, there, own' ∙ own, worked' ∙ ap (used_after modes i) worked)
+
+  -- ---- whatever is answered
+
+  stopped_first : (m : ℕ) (modes : List Mode) → AllByRecursion (IsMode m) modes → (j : ℕ) (why : ExecFault) (old new : CrewHeld G J) →
+      StopsIn gate job modes window j why old new
+      → GatesGrewFirst gate.ran m modes old.kits new.kits
+  stopped_first m modes all j why old new stops q g within at =
+      let mode = stops.mode in
+      let lane = lane_of (plan_rows mode.plan) q in
+      let (h, here, grew) = grew_through m (take j modes) (all_take (IsMode m) modes j all) stops.runs old stops.between stops.whole q g within at in
+      let wide = wide_as m mode (all_get (IsMode m) modes j mode all stops.at) in
+      let (now, there, (k, first)) = mode_first gate job mode.plan window (Err why) stops.between new stops.stopped q h (omega (arith, wide, within)) here in
+      let (n, front) = first_rows_of modes j mode q k stops.at in (
+        now,
+        there,
+        (
+          n,
+          first ∙ ap (λ o. grown o (take k lane)) grew ∙ grown-grown (gate.ran g) (rows_through (take j modes) q) (take k lane) ∙ ap (grown (gate.ran g))
+              front,
+        ),
+      )
+
+  -- each gate ran first rows of all
+  pub ran_first : (m : ℕ) (modes : List Mode) → AllByRecursion (IsMode m) modes → (old new : CrewHeld G J) (answer : Result (List Executed) ModesFault)
+      → ModesOutcome gate job modes window old new answer → GatesGrewFirst gate.ran m modes old.kits new.kits
+  ran_first m modes all old new (Ok runs) o q g within at =
+      let (now, there, grew) = grew_through m modes all runs old new o q g within at in
+      let rows = rows_through modes q in
+      (now, there, (length rows, grew ∙ ap (grown (gate.ran g)) (sym (take_all (length rows) rows (omega arith)))))
+  ran_first m modes all old new (Err (fault.Gate j x r)) o q g within at = stopped_first m modes all j (exec.Gate x r o.0) old new o.1 q g within at
+  ran_first m modes all old new (Err (fault.Job j t x r)) o q g within at = stopped_first m modes all j (exec.Job t x r o.0) old new o.1 q g within at
+  ran_first m modes all old new (Err fault.NoMemory) (inl same) q g within at =
+      (g, ap (λ (r : CrewHeld G J). slice_get r.kits q) same ∙ at, (0, sym (grown-nil (gate.ran g))))
+  ran_first m modes all old new (Err fault.NoMemory) (inr (j, stops)) q g within at = stopped_first m modes all j exec.NoMemory old new stops q g within at
+
+  stopped_back : (modes : List Mode) (j : ℕ) (why : ExecFault) (old new : CrewHeld G J) → StopsIn gate job modes window j why old new → AreBack gate job old new
+  stopped_back modes j why old new stops =
+      back_on gate job old stops.between new (modes_back (take j modes) stops.runs old stops.between stops.whole)
+      (back_mode gate job stops.mode.plan window (Err why) stops.between new stops.stopped)
+
+  -- all are back
+  pub are_back : (modes : List Mode) (old new : CrewHeld G J) (answer : Result (List Executed) ModesFault) → ModesOutcome gate job modes window old new answer →
+      AreBack gate job old new
+  are_back modes old new (Ok runs) o = modes_back modes runs old new o
+  are_back modes old new (Err (fault.Gate j x r)) o = stopped_back modes j (exec.Gate x r o.0) old new o.1
+  are_back modes old new (Err (fault.Job j t x r)) o = stopped_back modes j (exec.Job t x r o.0) old new o.1
+  are_back modes old new (Err fault.NoMemory) (inl same) = subst (λ (r : CrewHeld G J). AreBack gate job old r) (sym same) (back_same gate job old)
+  are_back modes old new (Err fault.NoMemory) (inr (j, stops)) = stopped_back modes j exec.NoMemory old new stops
+
   -- the gate or the job that is named failed
   pub names_risen : (m : ℕ) (modes : List Mode) → AllByRecursion (IsMode m) modes → (old new : CrewHeld G J) → AreFilled m old.kits → (f : ModesFault)
-      → ModesOutcome gate job modes old new (Err f) → NamesRisen gate job old new f
+      → ModesOutcome gate job modes window old new (Err f) → NamesRisen gate job old new f
   names_risen m modes all old new filled (fault.Gate j q r) (n, stops) = λ g now at there.
       let before = modes_back (take j modes) stops.runs old stops.between stops.whole in
       let (b, here, later) = before.gates q g at in
-      risen_later (gate.faults g) (gate.faults b) (gate.faults now) later (gate_risen gate job stops.mode.plan q r n stops.between new stops.stopped b now
-      here there)
+      risen_later (gate.faults g) (gate.faults b) (gate.faults now) later
+      (gate_risen gate job stops.mode.plan window q r n stops.between new stops.stopped b now here there)
   names_risen m modes all old new filled (fault.Job j t q r) (n, stops) = λ k now at there.
       let before = modes_back (take j modes) stops.runs old stops.between stops.whole in
       let (b, here, own, later) = before.jobs t k at in
       let is = all_get (IsMode m) modes j stops.mode all stops.at in
       let wide = wide_as m stops.mode is in
-      let kits = subst (λ n. AreFilled n stops.between.kits) (sym wide) (filled_after m old stops.between before filled) in
+      let kits = subst (λ n. AreFilled n stops.between.kits) (sym wide) (filled_after gate job m old stops.between before filled) in
       risen_later (job.faults k) (job.faults b) (job.faults now) later
-      (job_risen gate job stops.mode.plan is.lawful t q r n stops.between new kits stops.stopped b now here there)
+      (job_risen gate job stops.mode.plan window is.lawful t q r n stops.between new kits stops.stopped b now here there)
   names_risen m modes all old new filled fault.NoMemory o = tt
 
   -- a mode that stopped behind whole modes
   pub stops_at : (modes : List Mode) (j : ℕ) (m : Mode) (runs : List Executed) (why : ExecFault) (old between new : CrewHeld G J) → slice_get modes j ≡ Some m
-      → RanModes gate job (take j modes) runs old between → RanMode gate job m.plan (Err why) between new → ModesOutcome gate job modes old new
-      (Err (fault_in j why))
+      → RanModes gate job (take j modes) window runs old between → RanMode gate job m.plan window (Err why) between new
+      → ModesOutcome gate job modes window old new (Err (fault_in j why))
   stops_at modes j m runs (exec.Gate q r n) old between new at ran run =
       (n, record { mode = m; at = at; runs = runs; between = between; whole = ran; stopped = run })
   stops_at modes j m runs (exec.Job t q r n) old between new at ran run =
@@ -292,32 +292,34 @@ enough_jobs id places m (x ∷ modes) all own = (
 
 -- ---- one step of the run
 
-module _ {G J : Type 0} (gate : GateTells G) (job : JobTells J) (m : ModesContents) (j : ℕ) (p : PlanContents) (n : ℕ) (next : IsNext m j p n)
+module _ {G J : Type 0} (gate : GateTells G) (job : JobTells J) (window : ℕ) (m : ModesContents) (j : ℕ) (p : PlanContents) (n : ℕ) (next : IsNext m j p n)
     (runs : List Executed)
-    (old between new : CrewHeld G J) (ran : RanModes gate job (take j m.modes) runs old between) (answer : Result Executed ExecFault)
-    (run : RanMode gate job p answer between new) where
-  of_mode : RanMode gate job next.mode.plan answer between new
-  of_mode = subst (λ q. RanMode gate job q answer between new) (sym next.plan) run
+    (old between new : CrewHeld G J) (ran : RanModes gate job (take j m.modes) window runs old between) (answer : Result Executed ExecFault)
+    (run : RanMode gate job p window answer between new) where
+  of_mode : RanMode gate job next.mode.plan window answer between new
+  of_mode = subst (λ q. RanMode gate job q window answer between new) (sym next.plan) run
 
   -- the mode was run whole
-  pub ran_more : (e : Executed) → answer ≡ Ok e → (runs' : List Executed) → runs' ≡ runs ++ e ∷ [] → RanModes gate job (take (j + 1) m.modes) runs' old new
+  pub ran_more : (e : Executed) → answer ≡ Ok e → (runs' : List Executed) → runs' ≡ runs ++ e ∷ []
+      → RanModes gate job (take (j + 1) m.modes) window runs' old new
   ran_more e ok runs' more =
       let modes : take (j + 1) m.modes ≡ take j m.modes ++ next.mode ∷ [] = ap (λ k. take k m.modes) (add-one j) ∙ take_one_more m.modes j next.mode next.at in
-      let whole = subst (λ a. RanMode gate job next.mode.plan a between new) ok of_mode in
-      subst (λ xs. RanModes gate job xs runs' old new) (sym modes)
-      (subst (λ rs. RanModes gate job (take j m.modes ++ next.mode ∷ []) rs old new) (sym more) (ran_next gate job (take j m.modes) runs next.mode e old
-      between new ran whole))
+      let whole = subst (λ a. RanMode gate job next.mode.plan window a between new) ok of_mode in
+      subst (λ xs. RanModes gate job xs window runs' old new) (sym modes)
+      (subst (λ rs. RanModes gate job (take j m.modes ++ next.mode ∷ []) window rs old new) (sym more)
+      (ran_next gate job window (take j m.modes) runs next.mode e old between new ran whole))
 
   -- the mode stopped
-  pub stopped_in : (why : ExecFault) → answer ≡ Err why → (f : ModesFault) → f ≡ fault_in j why → ModesOutcome gate job m.modes old new (Err f)
+  pub stopped_in : (why : ExecFault) → answer ≡ Err why → (f : ModesFault) → f ≡ fault_in j why → ModesOutcome gate job m.modes window old new (Err f)
   stopped_in why err f is =
-      let stopped = subst (λ a. RanMode gate job next.mode.plan a between new) err of_mode in
-      subst (λ x. ModesOutcome gate job m.modes old new (Err x)) (sym is) (stops_at gate job m.modes j next.mode runs why old between new next.at ran stopped)
+      let stopped = subst (λ a. RanMode gate job next.mode.plan window a between new) err of_mode in
+      subst (λ x. ModesOutcome gate job m.modes window old new (Err x)) (sym is)
+      (stops_at gate job window m.modes j next.mode runs why old between new next.at ran stopped)
 
 -- all modes were run
-pub ran_to_end : {G J : Type 0} (gate : GateTells G) (job : JobTells J) (modes : List Mode) (j : ℕ) (runs : List Executed) (old new : CrewHeld G J)
-    → length modes ≤ j → RanModes gate job (take j modes) runs old new → RanModes gate job modes runs old new
-ran_to_end gate job modes j runs old new past ran = subst (λ xs. RanModes gate job xs runs old new) (take_all j modes past) ran
+pub ran_to_end : {G J : Type 0} (gate : GateTells G) (job : JobTells J) (window : ℕ) (modes : List Mode) (j : ℕ) (runs : List Executed) (old new : CrewHeld G J)
+    → length modes ≤ j → RanModes gate job (take j modes) window runs old new → RanModes gate job modes window runs old new
+ran_to_end gate job window modes j runs old new past ran = subst (λ xs. RanModes gate job xs window runs old new) (take_all j modes past) ran
 
 -- all modes were run whole
 pub record RunThrough {G J : Type 0} (gate : GateTells G) (job : JobTells J) (m : ℕ) (modes : List Mode) (runs : List Executed)
@@ -328,32 +330,31 @@ pub record RunThrough {G J : Type 0} (gate : GateTells G) (job : JobTells J) (m 
   pub first : GatesGrewFirst gate.ran m modes old.kits new.kits
   pub back : AreBack gate job old new
 
-pub run_through : {G J : Type 0} (gate : GateTells G) (job : JobTells J) (m : ℕ) (modes : List Mode) → AllByRecursion (IsMode m) modes →
+pub run_through : {G J : Type 0} (gate : GateTells G) (job : JobTells J) (window : ℕ) (m : ℕ) (modes : List Mode) → AllByRecursion (IsMode m) modes →
     (j : ℕ) (runs : List Executed) (old new : CrewHeld G J)
-    → length modes ≤ j → RanModes gate job (take j modes) runs old new → RunThrough gate job m modes runs old new
-run_through gate job m modes all j runs old new past some =
-    let ran = ran_to_end gate job modes j runs old new past some in
+    → length modes ≤ j → RanModes gate job (take j modes) window runs old new → RunThrough gate job m modes runs old new
+run_through gate job window m modes all j runs old new past some =
+    let ran = ran_to_end gate job window modes j runs old new past some in
     record {
-      gates = grew_through gate job m modes all runs old new ran;
-      whole = runs_whole gate job modes runs old new ran;
-      jobs = jobs_last gate job m modes all runs old new ran;
-      first = ran_first gate job m modes all old new (Ok runs) ran;
-      back = are_back gate job modes old new (Ok runs) ran;
+      gates = grew_through gate job window m modes all runs old new ran;
+      whole = runs_whole gate job window modes runs old new ran;
+      jobs = jobs_last gate job window m modes all runs old new ran;
+      first = ran_first gate job window m modes all old new (Ok runs) ran;
+      back = are_back gate job window modes old new (Ok runs) ran;
     }
 
 -- no mode was begun yet
-pub ran_none : {G J : Type 0} (gate : GateTells G) (job : JobTells J) (modes : List Mode) (runs : List Executed) (start : CrewHeld G J) → runs ≡ []
-    → RanModes gate job (take 0 modes) runs start start
-ran_none gate job modes runs start none = subst (λ rs. RanModes gate job [] rs start start) (sym none) refl
+pub ran_none : {G J : Type 0} (gate : GateTells G) (job : JobTells J) (window : ℕ) (modes : List Mode) (runs : List Executed) (start : CrewHeld G J) → runs ≡ []
+    → RanModes gate job (take 0 modes) window runs start start
+ran_none gate job window modes runs start none = subst (λ rs. RanModes gate job [] window rs start start) (sym none) refl
 
 -- where memory was refused before the first mode all is as it was
-pub refused_outcome : {G J : Type 0} (gate : GateTells G) (job : JobTells J) (modes : List Mode) (old : CrewHeld G J) (answer : Result (List Executed)
-    ModesFault) →
-    IsErrAnd answer (λ e. e ≡ fault.NoMemory) → ModesOutcome gate job modes old old answer
-refused_outcome gate job modes old (Ok runs) refused = absurd refused
-refused_outcome gate job modes old (Err (fault.Gate j q r)) refused = absurd (let e = refused in cc)
-refused_outcome gate job modes old (Err (fault.Job j t q r)) refused = absurd (let e = refused in cc)
-refused_outcome gate job modes old (Err fault.NoMemory) refused = inl refl
+pub refused_outcome : {G J : Type 0} (gate : GateTells G) (job : JobTells J) (window : ℕ) (modes : List Mode) (old : CrewHeld G J)
+    (answer : Result (List Executed) ModesFault) → IsErrAnd answer (λ e. e ≡ fault.NoMemory) → ModesOutcome gate job modes window old old answer
+refused_outcome gate job window modes old (Ok runs) refused = absurd refused
+refused_outcome gate job window modes old (Err (fault.Gate j q r)) refused = absurd (let e = refused in cc)
+refused_outcome gate job window modes old (Err (fault.Job j t q r)) refused = absurd (let e = refused in cc)
+refused_outcome gate job window modes old (Err fault.NoMemory) refused = inl refl
 
 -- what holds of the fault that is told holds of the one that there is
 pub told_fault : {T E : Type 0} (answer : Result T E) (fault : E) (P : E → Type 0) → IsErrAnd answer (λ e. e ≡ fault) → P fault → IfErr answer P

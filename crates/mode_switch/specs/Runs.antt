@@ -42,41 +42,42 @@ pub record HasBegun {G J : Type 0} (tells : JobTells J) (tasks : List Task) (old
   pub gates : new.kits ≡ old.kits
   pub jobs : seen tells new.places ≡ loaded 1 [] tasks (seen tells old.places)
 
--- a mode of this plan was run, with this answer: the jobs of its tasks began anew, and then its plan was executed
-pub record RanMode {G J : Type 0} (gate : GateTells G) (job : JobTells J) (p : PlanContents) (answer : Result Executed ExecFault)
+-- a mode of this plan was run within this window, with this answer: the jobs of its tasks began anew, and then its plan was executed
+pub record RanMode {G J : Type 0} (gate : GateTells G) (job : JobTells J) (p : PlanContents) (window : ℕ) (answer : Result Executed ExecFault)
     (old new : CrewHeld G J) : Type 0 where
   pub begun : CrewHeld G J
   pub begins : HasBegun job p.set.tasks old begun
-  pub window : ℕ
   pub outcome : Outcome gate.ran gate.faults job.id job.used job.made job.faults p window begun.kits new.kits begun.places new.places answer
 
--- modes were run whole, one after the other, with these answers
-abbrev pub RanModes : {G J : Type 0} → GateTells G → JobTells J → List Mode → List Executed → CrewHeld G J → CrewHeld G J → Type 0
-RanModes gate job [] [] old new = new ≡ old
-RanModes gate job [] (e ∷ runs) old new = ⊥
-RanModes gate job (m ∷ modes) [] old new = ⊥
-RanModes {G} {J} gate job (m ∷ modes) (e ∷ runs) old new =
-    (between : CrewHeld G J) × RanMode gate job m.plan (Ok e) old between × RanModes gate job modes runs between new
+-- modes were run whole, one after the other, each within this window, with these answers
+abbrev pub RanModes : {G J : Type 0} → GateTells G → JobTells J → List Mode → ℕ → List Executed → CrewHeld G J → CrewHeld G J → Type 0
+RanModes gate job [] window [] old new = new ≡ old
+RanModes gate job [] window (e ∷ runs) old new = ⊥
+RanModes gate job (m ∷ modes) window [] old new = ⊥
+RanModes {G} {J} gate job (m ∷ modes) window (e ∷ runs) old new =
+    (between : CrewHeld G J) × RanMode gate job m.plan window (Ok e) old between × RanModes gate job modes window runs between new
 
 -- the modes before mode j were run whole, mode j was run with this fault, and none after it was begun
-pub record StopsIn {G J : Type 0} (gate : GateTells G) (job : JobTells J) (modes : List Mode) (j : ℕ) (why : ExecFault)
+pub record StopsIn {G J : Type 0} (gate : GateTells G) (job : JobTells J) (modes : List Mode) (window j : ℕ) (why : ExecFault)
     (old new : CrewHeld G J) : Type 0 where
   pub mode : Mode
   pub at : slice_get modes j ≡ Some mode
   pub runs : List Executed
   pub between : CrewHeld G J
-  pub whole : RanModes gate job (take j modes) runs old between
-  pub stopped : RanMode gate job mode.plan (Err why) between new
+  pub whole : RanModes gate job (take j modes) window runs old between
+  pub stopped : RanMode gate job mode.plan window (Err why) between new
 
--- what a run of modes does, with what it answers. Where memory was refused, nothing was begun, or in some mode the jobs of its
--- tasks alone
-abbrev pub ModesOutcome : {G J : Type 0} → GateTells G → JobTells J → List Mode → CrewHeld G J → CrewHeld G J → Result (List Executed) ModesFault → Type 0
-ModesOutcome gate job modes old new (Ok runs) = RanModes gate job modes runs old new
-ModesOutcome gate job modes old new (Err (fault.Gate mode processor row)) =
-    (posts : ℕ) × StopsIn gate job modes mode (exec.Gate processor row posts) old new
-ModesOutcome gate job modes old new (Err (fault.Job mode task processor row)) =
-    (posts : ℕ) × StopsIn gate job modes mode (exec.Job task processor row posts) old new
-ModesOutcome gate job modes old new (Err fault.NoMemory) = (new ≡ old) ⊎ ((mode : ℕ) × StopsIn gate job modes mode exec.NoMemory old new)
+-- what a run of modes within this window does, with what it answers. Where memory was refused, nothing was begun, or in some mode
+-- the jobs of its tasks alone
+abbrev pub ModesOutcome : {G J : Type 0} → GateTells G → JobTells J → List Mode → ℕ → CrewHeld G J → CrewHeld G J
+    → Result (List Executed) ModesFault → Type 0
+ModesOutcome gate job modes window old new (Ok runs) = RanModes gate job modes window runs old new
+ModesOutcome gate job modes window old new (Err (fault.Gate mode processor row)) =
+    (posts : ℕ) × StopsIn gate job modes window mode (exec.Gate processor row posts) old new
+ModesOutcome gate job modes window old new (Err (fault.Job mode task processor row)) =
+    (posts : ℕ) × StopsIn gate job modes window mode (exec.Job task processor row posts) old new
+ModesOutcome gate job modes window old new (Err fault.NoMemory) =
+    (new ≡ old) ⊎ ((mode : ℕ) × StopsIn gate job modes window mode exec.NoMemory old new)
 
 -- processor q's rows of the modes, one mode after the other
 abbrev pub rows_through : List Mode → ℕ → List Row

@@ -39,7 +39,8 @@ pub fn run_modes<G: Gate + Send, X: Threads + Wait + Sync>(
     requires small_window { window ≤ window_limit }
     requires kits { AreFilled modes.now.processors kits.old.items }
     requires jobs { AllByRecursion (λ m. HaveOwnJobs ⟦<BoxedJob as Job>⟧.id (length m.plan.set.tasks) jobs.old.places) modes.now.modes }
-    ensures outcome { ModesOutcome G.Gate ⟦<BoxedJob as Job>⟧ modes.now.modes (crew_held kits.old jobs.old) (crew_held kits.new jobs.new) result }
+    ensures outcome { ModesOutcome G.Gate ⟦<BoxedJob as Job>⟧ modes.now.modes window (crew_held kits.old jobs.old)
+        (crew_held kits.new jobs.new) result }
 
     // Each gate ran its processor's rows of all modes, one mode after the other, and each mode's rows are a valid schedule.
     ensures gates { OnOk result (GatesGrewThrough G.ran modes.now.processors modes.now.modes kits.old.items kits.new.items) }
@@ -82,7 +83,7 @@ fn run_mode<G: Gate + Send, X: Threads + Wait + Sync>(
     requires executable { IsExecutable plan.now rounds window }
     requires kits { AreFilled plan.now.tree.processors kits.old.items }
     requires jobs { HaveOwnJobs ⟦<BoxedJob as Job>⟧.id (length plan.now.set.tasks) jobs.old.places }
-    ensures { RanMode G.Gate ⟦<BoxedJob as Job>⟧ plan.now result (crew_held kits.old jobs.old) (crew_held kits.new jobs.new) }
+    ensures { RanMode G.Gate ⟦<BoxedJob as Job>⟧ plan.now window result (crew_held kits.old jobs.old) (crew_held kits.new jobs.new) }
 {
     begin_anew(jobs, plan.set());
     execute_on(rt, alloc, plan, rounds, window, kits, jobs)

@@ -33,7 +33,7 @@ use Rattle.mode_switch.specs.Runs as modes
 use Rattle.pure_commands.specs.declared.mode_refusal.ModeRefusal.{ModeRefusal}
 use Rattle.pure_commands.specs.declared.mode_refusal.ModeRefusal.TheVariants as mode
 use Rattle.run_tool.specs.Executions.{GateSeen, JobSeen, Crew, gates_of, jobs_of, Holds, IsFreshCrew, AreBack, RanAll, GateRose, JobRose, GateStopped}
-use Rattle.run_tool.specs.Executions.{JobStopped, name_at}
+use Rattle.run_tool.specs.Executions.{JobStopped, name_at, usual_window}
 use Rattle.run_tool.proofs.CrewMade.{crew}
 use Rattle.run_tool.specs.ModeRuns.{made_after, RanThrough, StopsInMode, StopsBetween}
 use Rattle.run_tool.specs.Executions.{loaded_crew}
@@ -186,29 +186,29 @@ module _ {G J : Type 0} (gate : GateTells G) (job : JobTells J)
         (x, here, ap (λ (y : JobSeen). y.id) same ∙ own, ap (λ (y : JobSeen). y.used) same)
 
   -- a mode that was run whole
-  mode_whole : (p : PlanContents) → IsPlan p → (old new : CrewHeld G J) (e : Executed) → IsStaffed (crew_at old) → RanMode gate job p (Ok e) old new
-      → RanAll p (loaded_crew [] 1 p.set.tasks (crew_at old)) (crew_at new)
-  mode_whole p h old new e staffed ran =
+  mode_whole : (p : PlanContents) (window : ℕ) → IsPlan p → (old new : CrewHeld G J) (e : Executed) → IsStaffed (crew_at old)
+      → RanMode gate job p window (Ok e) old new → RanAll p (loaded_crew [] 1 p.set.tasks (crew_at old)) (crew_at new)
+  mode_whole p window h old new e staffed ran =
       let begun = ran.begun in
       let o = ran.outcome in
       subst (λ (c : Crew). RanAll p c (crew_at new)) (begun_is p h old begun ran.begins staffed)
-      (ran_to_end gate.ran gate.faults job.id job.used job.made job.faults p ran.window h begun.kits new.kits begun.places new.places
+      (ran_to_end gate.ran gate.faults job.id job.used job.made job.faults p window h begun.kits new.kits begun.places new.places
       (filled p h old begun ran.begins staffed) (fresh p h old begun ran.begins staffed) (names p h) o.0 o.1 e o.2)
 
   -- modes that were run whole
-  pub through : (ms : List Mode) (runs : List Executed) (old new : CrewHeld G J) → AllByRecursion (λ m. IsPlan m.plan) ms → IsStaffed (crew_at old)
-      → RanModes gate job ms runs old new → RanThrough ms (crew_at old) (crew_at new) × IsStaffed (crew_at new)
-  through [] [] old new all staffed same = (
+  pub through : (ms : List Mode) (window : ℕ) (runs : List Executed) (old new : CrewHeld G J) → AllByRecursion (λ m. IsPlan m.plan) ms
+      → IsStaffed (crew_at old) → RanModes gate job ms window runs old new → RanThrough ms (crew_at old) (crew_at new) × IsStaffed (crew_at new)
+  through [] window [] old new all staffed same = (
     subst (λ (r : CrewHeld G J). RanThrough [] (crew_at old) (crew_at r)) (sym same) (none_through (crew_at old)),
     subst (λ (r : CrewHeld G J). IsStaffed (crew_at r)) (sym same) staffed,
   )
-  through [] (e ∷ runs) old new all staffed ran = absurd ran
-  through (m ∷ ms) [] old new all staffed ran = absurd ran
-  through (m ∷ ms) (e ∷ runs) old new all staffed ran =
+  through [] window (e ∷ runs) old new all staffed ran = absurd ran
+  through (m ∷ ms) window [] old new all staffed ran = absurd ran
+  through (m ∷ ms) window (e ∷ runs) old new all staffed ran =
       let (between, here, later) = ran in
-      let first = mode_whole m.plan all.0 old between e staffed here in
+      let first = mode_whole m.plan window all.0 old between e staffed here in
       let still = ran_staffed m.plan _ _ first (begun_staffed m.plan.set.tasks (crew_at old) staffed) in
-      let (rest, end) = through ms runs between new all.1 still later in
+      let (rest, end) = through ms window runs between new all.1 still later in
       (one_more_through m ms (names m.plan all.0) (crew_at old) (crew_at between) (crew_at new) first rest, end)
 
   -- all are back
@@ -272,58 +272,58 @@ module _ {G J : Type 0} (gate : GateTells G) (job : JobTells J)
     pub stops : (name : Option (List ℕ)) → name ≡ name_at mode.plan.set.tasks row.leaf → StopsInMode ms j old new (refusal name)
 
   module _ (ms : List Mode) (each : AllByRecursion (λ m. IsPlan m.plan) ms) (old new : CrewHeld G J) (staffed : IsStaffed (crew_at old)) (j : ℕ) where
-    pub gate_failed : (q n : ℕ) (row : Row) → StopsIn gate job ms j (exec.Gate q row n) old new
+    pub gate_failed : (q n : ℕ) (row : Row) → StopsIn gate job ms usual_window j (exec.Gate q row n) old new
         → FailedAt ms j (crew_at old) (crew_at new) row (λ name. mode.GateFault row name)
     gate_failed q n row stops =
         let p = stops.mode.plan in
         let h = all_at (λ m. IsPlan m.plan) ms j stops.mode each stops.at in
-        let (before, still) = through (take j ms) stops.runs old stops.between (take_all_by (λ m. IsPlan m.plan) j ms each) staffed stops.whole in
+        let (before, still) = through (take j ms) usual_window stops.runs old stops.between (take_all_by (λ m. IsPlan m.plan) j ms each) staffed stops.whole in
         let ran = stops.stopped in
         let begun = ran.begun in
         let o = ran.outcome in
         let full = filled p h stops.between begun ran.begins still in
         let new_jobs = fresh p h stops.between begun ran.begins still in
-        let here : GateStopped p ran.window (crew_at begun) (crew_at new) row =
-        gate_stopped gate.ran gate.faults job.id job.used job.made job.faults p ran.window h begun.kits new.kits begun.places new.places
+        let here : GateStopped p usual_window (crew_at begun) (crew_at new) row =
+        gate_stopped gate.ran gate.faults job.id job.used job.made job.faults p usual_window h begun.kits new.kits begun.places new.places
         full new_jobs (names p h) o.0 o.1 q row o.2.0 o.2.1 in
-        let stopped : GateStopped p ran.window (loaded_crew [] 1 p.set.tasks (crew_at stops.between)) (crew_at new) row =
-        subst (λ (c : Crew). GateStopped p ran.window c (crew_at new) row) (begun_is p h stops.between begun ran.begins still) here in
-        let below = gate_below gate.ran gate.faults job.id job.used job.made job.faults p ran.window h begun.kits new.kits begun.places new.places
+        let stopped : GateStopped p usual_window (loaded_crew [] 1 p.set.tasks (crew_at stops.between)) (crew_at new) row =
+        subst (λ (c : Crew). GateStopped p usual_window c (crew_at new) row) (begun_is p h stops.between begun ran.begins still) here in
+        let below = gate_below gate.ran gate.faults job.id job.used job.made job.faults p usual_window h begun.kits new.kits begun.places new.places
         full new_jobs (names p h) o.0 o.1 q row o.2.0 in
         let few = h.sized.few_processors in
         let within : row.processor < 32 = omega (arith, below, few) in
         record {
           mode = stops.mode;
           at = stops.at;
-          named = gate_names gate.ran gate.faults job.id job.used job.made job.faults p ran.window h begun.kits new.kits begun.places new.places
+          named = gate_names gate.ran gate.faults job.id job.used job.made job.faults p usual_window h begun.kits new.kits begun.places new.places
               full new_jobs (names p h) o.0 o.1 q row o.2.0;
           stops = λ name is. record {
             mode = stops.mode;
             at = stops.at;
             between = crew_at stops.between;
             before = before;
-            stopped = (ran.window, stopped, is);
+            stopped = (stopped, is);
             rose = gate_rose_since (take j ms) p.set.tasks (crew_at old) (crew_at stops.between) (crew_at new) row.processor within staffed before stopped.rose;
           };
         }
 
-    pub job_failed : (t q n : ℕ) (row : Row) → StopsIn gate job ms j (exec.Job t q row n) old new
+    pub job_failed : (t q n : ℕ) (row : Row) → StopsIn gate job ms usual_window j (exec.Job t q row n) old new
         → FailedAt ms j (crew_at old) (crew_at new) row (λ name. mode.JobFault row name)
     job_failed t q n row stops =
         let p = stops.mode.plan in
         let h = all_at (λ m. IsPlan m.plan) ms j stops.mode each stops.at in
-        let (before, still) = through (take j ms) stops.runs old stops.between (take_all_by (λ m. IsPlan m.plan) j ms each) staffed stops.whole in
+        let (before, still) = through (take j ms) usual_window stops.runs old stops.between (take_all_by (λ m. IsPlan m.plan) j ms each) staffed stops.whole in
         let ran = stops.stopped in
         let begun = ran.begun in
         let o = ran.outcome in
         let full = filled p h stops.between begun ran.begins still in
         let new_jobs = fresh p h stops.between begun ran.begins still in
-        let here : JobStopped p ran.window (crew_at begun) (crew_at new) row =
-        job_stopped gate.ran gate.faults job.id job.used job.made job.faults p ran.window h begun.kits new.kits begun.places new.places
+        let here : JobStopped p usual_window (crew_at begun) (crew_at new) row =
+        job_stopped gate.ran gate.faults job.id job.used job.made job.faults p usual_window h begun.kits new.kits begun.places new.places
         full new_jobs (names p h) o.0 o.1 q t o.2.1.0 row o.2.1.1 o.2.0 o.2.2 in
-        let stopped : JobStopped p ran.window (loaded_crew [] 1 p.set.tasks (crew_at stops.between)) (crew_at new) row =
-        subst (λ (c : Crew). JobStopped p ran.window c (crew_at new) row) (begun_is p h stops.between begun ran.begins still) here in
-        let named = job_names gate.ran gate.faults job.id job.used job.made job.faults p ran.window h begun.kits new.kits begun.places new.places
+        let stopped : JobStopped p usual_window (loaded_crew [] 1 p.set.tasks (crew_at stops.between)) (crew_at new) row =
+        subst (λ (c : Crew). JobStopped p usual_window c (crew_at new) row) (begun_is p h stops.between begun ran.begins still) here in
+        let named = job_names gate.ran gate.faults job.id job.used job.made job.faults p usual_window h begun.kits new.kits begun.places new.places
         full new_jobs (names p h) o.0 o.1 q t o.2.1.0 row o.2.1.1 in
         let (task, leaf, rose) = stopped.task in
         let among : task.0 < length p.set.tasks = subst (λ (l : Leaf). NamesOneOf p.set.tasks l) leaf named in
@@ -338,17 +338,17 @@ module _ {G J : Type 0} (gate : GateTells G) (job : JobTells J)
             at = stops.at;
             between = crew_at stops.between;
             before = before;
-            stopped = (ran.window, stopped, is);
+            stopped = (stopped, is);
             rose = (task, leaf, job_rose_since (take j ms) p.set.tasks (crew_at old) (crew_at stops.between) (crew_at new) task.0 within staffed before rose);
           };
         }
 
     -- memory was refused for a mode, whose tasks' jobs had begun anew
-    pub stopped_between : StopsIn gate job ms j exec.NoMemory old new → StopsBetween ms (crew_at old) (crew_at new)
+    pub stopped_between : StopsIn gate job ms usual_window j exec.NoMemory old new → StopsBetween ms (crew_at old) (crew_at new)
     stopped_between stops =
         let p = stops.mode.plan in
         let h = all_at (λ m. IsPlan m.plan) ms j stops.mode each stops.at in
-        let (before, still) = through (take j ms) stops.runs old stops.between (take_all_by (λ m. IsPlan m.plan) j ms each) staffed stops.whole in
+        let (before, still) = through (take j ms) usual_window stops.runs old stops.between (take_all_by (λ m. IsPlan m.plan) j ms each) staffed stops.whole in
         let ran = stops.stopped in
         let same : crew_at new ≡ crew_at ran.begun =
         (λ i. crew (gates_of gate.ran gate.faults (ran.outcome.0 i)) (jobs_of job.id job.used job.faults job.made (ran.outcome.1 i))) in
@@ -377,15 +377,15 @@ module _ {G J : Type 0} (gate : GateTells G) (job : JobTells J)
   -- ---- by what a run of modes answers
 
   module _ (ms : List Mode) (each : AllByRecursion (λ m. IsPlan m.plan) ms) (old new : CrewHeld G J) (ready : IsFreshCrew (crew_at old))
-      (result : Result (List Executed) ModesFault) (o : ModesOutcome gate job ms old new result) where
-    at_answer : (answer : Result (List Executed) ModesFault) → result ≡ answer → ModesOutcome gate job ms old new answer
-    at_answer answer is = subst (λ x. ModesOutcome gate job ms old new x) is o
+      (result : Result (List Executed) ModesFault) (o : ModesOutcome gate job ms usual_window old new result) where
+    at_answer : (answer : Result (List Executed) ModesFault) → result ≡ answer → ModesOutcome gate job ms usual_window old new answer
+    at_answer answer is = subst (λ x. ModesOutcome gate job ms usual_window old new x) is o
 
     staffed : IsStaffed (crew_at old)
     staffed = ready_staffed (crew_at old) ready
 
     pub ran_by : (runs : List Executed) → result ≡ Ok runs → RanThrough ms (crew_at old) (crew_at new)
-    ran_by runs is = (through ms runs old new each staffed (at_answer (Ok runs) is)).0
+    ran_by runs is = (through ms usual_window runs old new each staffed (at_answer (Ok runs) is)).0
 
     pub gate_by : (j q : ℕ) (row : Row) → result ≡ Err (fault.Gate j q row)
         → FailedAt ms j (crew_at old) (crew_at new) row (λ name. mode.GateFault row name)

@@ -21,7 +21,7 @@ use Rattle.exit_status.specs.declared.Status.{Status}
 use Rattle.exit_status.specs.declared.Status.TheVariants.{Done}
 use Rattle.pure_commands.specs.Commands.{set_limit}
 use Rattle.pure_commands.specs.Ends.{Streams}
-use Rattle.run_tool.specs.Executions.{GateSeen, JobSeen, Crew, Holds, loaded_crew, GateStopped, JobStopped, GateRose, JobRose, name_at}
+use Rattle.run_tool.specs.Executions.{GateSeen, JobSeen, Crew, Holds, loaded_crew, GateStopped, JobStopped, GateRose, JobRose, name_at, usual_window}
 use Rattle.pure_commands.specs.Numbered.{several}
 use Rattle.run_tool.specs.ModeTexts.{ReadsModes, RefusesModes, mode_part}
 
@@ -39,10 +39,10 @@ pub record RanThrough (modes : List Mode) (old new : Crew) : Type 0 where
       × (k.made ≡ made_after modes i j.made)
   pub valid : AllByRecursion (λ m. IsValid m.plan.set m.plan.tree.scale (stop_of m.plan) (stop_of m.plan) (all_rows (plan_rows m.plan))) modes
 
--- why the rows of a plan weren't all run
+-- why the rows of a plan weren't all run, within the usual window
 abbrev pub StopsInPlan : PlanContents → Crew → Crew → ModeRefusal → Type 0
-StopsInPlan p old new (mode.GateFault row name) = (window : ℕ) × GateStopped p window old new row × (name ≡ name_at p.set.tasks row.leaf)
-StopsInPlan p old new (mode.JobFault row name) = (window : ℕ) × JobStopped p window old new row × (name ≡ name_at p.set.tasks row.leaf)
+StopsInPlan p old new (mode.GateFault row name) = GateStopped p usual_window old new row × (name ≡ name_at p.set.tasks row.leaf)
+StopsInPlan p old new (mode.JobFault row name) = JobStopped p usual_window old new row × (name ≡ name_at p.set.tasks row.leaf)
 StopsInPlan p old new _ = ⊥
 
 -- the gate or the job that is named failed

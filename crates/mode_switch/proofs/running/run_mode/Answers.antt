@@ -17,6 +17,5 @@ pub returns : goal.returns
 returns g c = record {
   begun = record { kits = c.args.kits.now.items; places = c.begin_anew.new.jobs.places };
   begins = record { gates = refl; jobs = rw c.set.ensures.value at c.begin_anew.ensures };
-  window = c.args.window;
   outcome = c.execute_on.ensures.outcome;
 }

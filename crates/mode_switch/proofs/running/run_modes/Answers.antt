@@ -22,14 +22,14 @@ run_mode-requires-clause-executable g c κs within =
 pub run_mode-requires-clause-kits : goal.run_mode-requires-clause-kits
 run_mode-requires-clause-kits g c κs within =
     let next = next_mode c.args.modes.now c.count.ensures.lawful c.loop-j.j c.plan.result.now c.rounds.result c.plan.ensures.value c.rounds.ensures.value in
-    let back = modes_back _ _ (take c.loop-j.j c.args.modes.now.modes) c.loop-j.runs.items _ _ c.loop-j.invariant.ran in
+    let back = modes_back _ _ c.args.window (take c.loop-j.j c.args.modes.now.modes) c.loop-j.runs.items _ _ c.loop-j.invariant.ran in
     let filled = filled_after _ _ c.args.modes.now.processors _ _ back c.requires.kits in
     λ p below. filled p (let wide = next.wide in omega (arith, below, wide))
 
 pub run_mode-requires-clause-jobs : goal.run_mode-requires-clause-jobs
 run_mode-requires-clause-jobs g c κs within =
     let next = next_mode c.args.modes.now c.count.ensures.lawful c.loop-j.j c.plan.result.now c.rounds.result c.plan.ensures.value c.rounds.ensures.value in
-    let back = modes_back _ _ (take c.loop-j.j c.args.modes.now.modes) c.loop-j.runs.items _ _ c.loop-j.invariant.ran in
+    let back = modes_back _ _ c.args.window (take c.loop-j.j c.args.modes.now.modes) c.loop-j.runs.items _ _ c.loop-j.invariant.ran in
     let own = all_get _ c.args.modes.now.modes c.loop-j.j next.mode c.requires.jobs next.at in
     let after = own_after _ _ (length next.mode.plan.set.tasks) _ _ back own in
     λ t below. after t (subst (λ (p : PlanContents). t < length p.set.tasks) (sym next.plan) below)
@@ -37,27 +37,24 @@ run_mode-requires-clause-jobs g c κs within =
 pub returns-in-Err-clause-outcome : goal.returns-in-Err-clause-outcome
 returns-in-Err-clause-outcome g c =
     let next = next_mode c.args.modes.now c.count.ensures.lawful c.loop-j.j c.plan.result.now c.rounds.result c.plan.ensures.value c.rounds.ensures.value in
-    stopped_in _ _ c.args.modes.now c.loop-j.j c.plan.result.now c.rounds.result next c.loop-j.runs.items _ _ _ c.loop-j.invariant.ran c.run_mode.result
-    c.run_mode.ensures
-    c.in-Err.fault c.in-Err.is c.in_mode.result c.in_mode.ensures
+    stopped_in _ _ c.args.window c.args.modes.now c.loop-j.j c.plan.result.now c.rounds.result next c.loop-j.runs.items _ _ _ c.loop-j.invariant.ran
+    c.run_mode.result c.run_mode.ensures c.in-Err.fault c.in-Err.is c.in_mode.result c.in_mode.ensures
 
 pub returns-in-Err-clause-first : goal.returns-in-Err-clause-first
 returns-in-Err-clause-first g c =
     let next = next_mode c.args.modes.now c.count.ensures.lawful c.loop-j.j c.plan.result.now c.rounds.result c.plan.ensures.value c.rounds.ensures.value in
     let outcome =
-    stopped_in _ _ c.args.modes.now c.loop-j.j c.plan.result.now c.rounds.result next c.loop-j.runs.items _ _ _ c.loop-j.invariant.ran c.run_mode.result
-    c.run_mode.ensures
-    c.in-Err.fault c.in-Err.is c.in_mode.result c.in_mode.ensures in
-    ran_first _ _ c.args.modes.now.processors c.args.modes.now.modes c.count.ensures.lawful.each _ _ (Err c.in_mode.result) outcome
+    stopped_in _ _ c.args.window c.args.modes.now c.loop-j.j c.plan.result.now c.rounds.result next c.loop-j.runs.items _ _ _ c.loop-j.invariant.ran
+    c.run_mode.result c.run_mode.ensures c.in-Err.fault c.in-Err.is c.in_mode.result c.in_mode.ensures in
+    ran_first _ _ c.args.window c.args.modes.now.processors c.args.modes.now.modes c.count.ensures.lawful.each _ _ (Err c.in_mode.result) outcome
 
 pub returns-in-Err-clause-risen : goal.returns-in-Err-clause-risen
 returns-in-Err-clause-risen g c =
     let next = next_mode c.args.modes.now c.count.ensures.lawful c.loop-j.j c.plan.result.now c.rounds.result c.plan.ensures.value c.rounds.ensures.value in
     let outcome =
-    stopped_in _ _ c.args.modes.now c.loop-j.j c.plan.result.now c.rounds.result next c.loop-j.runs.items _ _ _ c.loop-j.invariant.ran c.run_mode.result
-    c.run_mode.ensures
-    c.in-Err.fault c.in-Err.is c.in_mode.result c.in_mode.ensures in
-    names_risen _ _ c.args.modes.now.processors c.args.modes.now.modes c.count.ensures.lawful.each
+    stopped_in _ _ c.args.window c.args.modes.now c.loop-j.j c.plan.result.now c.rounds.result next c.loop-j.runs.items _ _ _ c.loop-j.invariant.ran
+    c.run_mode.result c.run_mode.ensures c.in-Err.fault c.in-Err.is c.in_mode.result c.in_mode.ensures in
+    names_risen _ _ c.args.window c.args.modes.now.processors c.args.modes.now.modes c.count.ensures.lawful.each
     (record { kits = c.args.kits.now.items; places = c.args.jobs.now.places }) _
     c.requires.kits c.in_mode.result outcome
 
@@ -65,10 +62,9 @@ pub returns-in-Err-clause-back : goal.returns-in-Err-clause-back
 returns-in-Err-clause-back g c =
     let next = next_mode c.args.modes.now c.count.ensures.lawful c.loop-j.j c.plan.result.now c.rounds.result c.plan.ensures.value c.rounds.ensures.value in
     let outcome =
-    stopped_in _ _ c.args.modes.now c.loop-j.j c.plan.result.now c.rounds.result next c.loop-j.runs.items _ _ _ c.loop-j.invariant.ran c.run_mode.result
-    c.run_mode.ensures
-    c.in-Err.fault c.in-Err.is c.in_mode.result c.in_mode.ensures in
-    are_back _ _ c.args.modes.now.modes _ _ (Err c.in_mode.result) outcome
+    stopped_in _ _ c.args.window c.args.modes.now c.loop-j.j c.plan.result.now c.rounds.result next c.loop-j.runs.items _ _ _ c.loop-j.invariant.ran
+    c.run_mode.result c.run_mode.ensures c.in-Err.fault c.in-Err.is c.in_mode.result c.in_mode.ensures in
+    are_back _ _ c.args.window c.args.modes.now.modes _ _ (Err c.in_mode.result) outcome
 
 pub returns-in-Err-clause-gates : goal.returns-in-Err-clause-gates
 returns-in-Err-clause-gates g c = tt
@@ -91,7 +87,7 @@ loop-j-preserved g c =
     record {
       count = omega (arith, long, more, count);
       room = omega (arith, room, same);
-      ran = ran_more _ _ c.args.modes.now c.loop-j.j c.plan.result.now c.rounds.result next c.loop-j.runs.items _ _ _ inv.ran c.run_mode.result
+      ran = ran_more _ _ c.args.window c.args.modes.now c.loop-j.j c.plan.result.now c.rounds.result next c.loop-j.runs.items _ _ _ inv.ran c.run_mode.result
           c.run_mode.ensures
           c.in-Ok.executed c.in-Ok.is c.push_reserved.new.self.items c.push_reserved.ensures.items;
     }
@@ -110,38 +106,38 @@ invariant_of-result g c =
 pub returns-clause-gates : goal.returns-clause-gates
 returns-clause-gates g c =
     let past : length c.args.modes.now.modes ≤ c.loop-j.j = omega (arith, c.count-j-end.ensures.value, c.loop-j-test.false) in
-    (run_through _ _ c.args.modes.now.processors c.args.modes.now.modes c.count.ensures.lawful.each c.loop-j.j c.loop-j.runs.items _ _ past
+    (run_through _ _ c.args.window c.args.modes.now.processors c.args.modes.now.modes c.count.ensures.lawful.each c.loop-j.j c.loop-j.runs.items _ _ past
     c.loop-j.invariant.ran).gates
 
 pub returns-clause-whole : goal.returns-clause-whole
 returns-clause-whole g c =
     let past : length c.args.modes.now.modes ≤ c.loop-j.j = omega (arith, c.count-j-end.ensures.value, c.loop-j-test.false) in
-    (run_through _ _ c.args.modes.now.processors c.args.modes.now.modes c.count.ensures.lawful.each c.loop-j.j c.loop-j.runs.items _ _ past
+    (run_through _ _ c.args.window c.args.modes.now.processors c.args.modes.now.modes c.count.ensures.lawful.each c.loop-j.j c.loop-j.runs.items _ _ past
     c.loop-j.invariant.ran).whole
 
 pub returns-clause-jobs : goal.returns-clause-jobs
 returns-clause-jobs g c =
     let past : length c.args.modes.now.modes ≤ c.loop-j.j = omega (arith, c.count-j-end.ensures.value, c.loop-j-test.false) in
-    (run_through _ _ c.args.modes.now.processors c.args.modes.now.modes c.count.ensures.lawful.each c.loop-j.j c.loop-j.runs.items _ _ past
+    (run_through _ _ c.args.window c.args.modes.now.processors c.args.modes.now.modes c.count.ensures.lawful.each c.loop-j.j c.loop-j.runs.items _ _ past
     c.loop-j.invariant.ran).jobs
 
 pub returns-clause-first : goal.returns-clause-first
 returns-clause-first g c =
     let past : length c.args.modes.now.modes ≤ c.loop-j.j = omega (arith, c.count-j-end.ensures.value, c.loop-j-test.false) in
-    (run_through _ _ c.args.modes.now.processors c.args.modes.now.modes c.count.ensures.lawful.each c.loop-j.j c.loop-j.runs.items _ _ past
+    (run_through _ _ c.args.window c.args.modes.now.processors c.args.modes.now.modes c.count.ensures.lawful.each c.loop-j.j c.loop-j.runs.items _ _ past
     c.loop-j.invariant.ran).first
 
 pub returns-clause-back : goal.returns-clause-back
 returns-clause-back g c =
     let past : length c.args.modes.now.modes ≤ c.loop-j.j = omega (arith, c.count-j-end.ensures.value, c.loop-j-test.false) in
-    (run_through _ _ c.args.modes.now.processors c.args.modes.now.modes c.count.ensures.lawful.each c.loop-j.j c.loop-j.runs.items _ _ past
+    (run_through _ _ c.args.window c.args.modes.now.processors c.args.modes.now.modes c.count.ensures.lawful.each c.loop-j.j c.loop-j.runs.items _ _ past
     c.loop-j.invariant.ran).back
 
 pub returns-clause-risen : goal.returns-clause-risen
 returns-clause-risen g c = tt
 
 pub returns-in_err-runs-clause-outcome : goal.returns-in_err-runs-clause-outcome
-returns-in_err-runs-clause-outcome g c = refused_outcome _ _ c.args.modes.now.modes
+returns-in_err-runs-clause-outcome g c = refused_outcome _ _ c.args.window c.args.modes.now.modes
     (record { kits = c.args.kits.now.items; places = c.args.jobs.now.places }) c.from_residual.result c.from_residual.ensures.1
 
 pub returns-in_err-runs-clause-gates : goal.returns-in_err-runs-clause-gates
@@ -161,8 +157,8 @@ returns-in_err-runs-clause-first g c =
       used = λ j. (g.dyn-1.0.entry j.vtable).1.used j.value;
       faults = λ j. (g.dyn-1.0.entry j.vtable).1.faults j.value;
       made = λ j. (g.dyn-1.0.entry j.vtable).1.made j.value;
-    }) c.args.modes.now.processors c.args.modes.now.modes c.count.ensures.lawful.each start start c.from_residual.result
-    (refused_outcome _ _ c.args.modes.now.modes start c.from_residual.result c.from_residual.ensures.1)
+    }) c.args.window c.args.modes.now.processors c.args.modes.now.modes c.count.ensures.lawful.each start start c.from_residual.result
+    (refused_outcome _ _ c.args.window c.args.modes.now.modes start c.from_residual.result c.from_residual.ensures.1)
 
 pub returns-in_err-runs-clause-risen : goal.returns-in_err-runs-clause-risen
 returns-in_err-runs-clause-risen g c = told_fault c.from_residual.result fault.NoMemory _ c.from_residual.ensures.1 tt
@@ -170,8 +166,8 @@ returns-in_err-runs-clause-risen g c = told_fault c.from_residual.result fault.N
 pub returns-in_err-runs-clause-back : goal.returns-in_err-runs-clause-back
 returns-in_err-runs-clause-back g c =
     let start : CrewHeld g.row.G.Denot _ = record { kits = c.args.kits.now.items; places = c.args.jobs.now.places } in
-    are_back _ _ c.args.modes.now.modes start start c.from_residual.result
-    (refused_outcome _ _ c.args.modes.now.modes start c.from_residual.result c.from_residual.ensures.1)
+    are_back _ _ c.args.window c.args.modes.now.modes start start c.from_residual.result
+    (refused_outcome _ _ c.args.window c.args.modes.now.modes start c.from_residual.result c.from_residual.ensures.1)
 
 pub loop-j-init : goal.loop-j-init
 loop-j-init g c = record {
@@ -182,7 +178,7 @@ loop-j-init g c = record {
     used = λ j. (g.dyn-1.0.entry j.vtable).1.used j.value;
     faults = λ j. (g.dyn-1.0.entry j.vtable).1.faults j.value;
     made = λ j. (g.dyn-1.0.entry j.vtable).1.made j.value;
-  }) c.args.modes.now.modes c.in_ok-runs.runs.items _ c.in_ok-runs.ensures.items;
+  }) c.args.window c.args.modes.now.modes c.in_ok-runs.runs.items _ c.in_ok-runs.ensures.items;
 }
 
 pub overflow_cast-count : goal.overflow_cast-count
@@ -200,4 +196,4 @@ push_reserved-requires g c =
 pub returns-clause-outcome : goal.returns-clause-outcome
 returns-clause-outcome g c =
     let past : length c.args.modes.now.modes ≤ c.loop-j.j = omega (arith, c.count-j-end.ensures.value, c.loop-j-test.false) in
-    ran_to_end _ _ c.args.modes.now.modes c.loop-j.j c.loop-j.runs.items _ _ past c.loop-j.invariant.ran
+    ran_to_end _ _ c.args.window c.args.modes.now.modes c.loop-j.j c.loop-j.runs.items _ _ past c.loop-j.invariant.ran

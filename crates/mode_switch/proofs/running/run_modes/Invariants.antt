@@ -13,5 +13,5 @@ invariant-loop-j g l = record {
         used = λ j. (g.dyn-1.0.entry j.vtable).1.used j.value;
         faults = λ j. (g.dyn-1.0.entry j.vtable).1.faults j.value;
         made = λ j. (g.dyn-1.0.entry j.vtable).1.made j.value;
-      }) (take l.j l.modes.modes) l.runs.items (crew_held l.fn.kits l.fn.jobs) (crew_held l.kits l.jobs);
+      }) (take l.j l.modes.modes) l.window l.runs.items (crew_held l.fn.kits l.fn.jobs) (crew_held l.kits l.jobs);
 }
