@@ -7,7 +7,7 @@ ghost use Rattle.command_words.specs.Words.{command_of};
 ghost use Rattle.sched_base.specs.Limits.{processor_limit};
 ghost use Rattle.sched_edges.specs.StdStreams.{kept_back};
 ghost use Rattle.pure_commands.specs.Ends.{streams_of, error_of, IsUsage};
-ghost use Rattle.run_tool.specs.Alone.{EndsAlone, IsDoneWithOwn};
+ghost use Rattle.run_tool.specs.Alone.{EndsAlone, EndsClosed, IsDoneWithOwn};
 ghost use Rattle.run_tool.specs.Executions.{gates_of};
 ghost use Rattle.run_tool.specs.Ready.{AreFirstGates};
 
@@ -122,6 +122,11 @@ fn run_and_close<R: Source, W: Write + Drop, E: Sink, X: Threads + Wait + Sync>(
     out: &mut StdSink<BufWriter<W>>,
     err: &mut E,
 ) -> Status
+    // The command's end, with its line, and then what became of the text that was kept back, with a line where that failed alone.
+    ensures ends { EndsClosed (map string_bytes (drop 1 called_with.now))
+        (streams_of R.Source ⟦<StdSink<BufWriter<W>> as Sink>⟧ source.old out.old)
+        (streams_of R.Source ⟦<StdSink<BufWriter<W>> as Sink>⟧ source.new out.new)
+        (error_of E.Sink err.old) (error_of E.Sink err.new) (kept_back out.new) result }
     ensures usage { result ≢ Status.NoMemory →
         ((result ≡ Status.Usage) ↔ (command_of (map string_bytes (drop 1 called_with.now)) ≡ None)) }
 

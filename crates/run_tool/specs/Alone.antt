@@ -1,13 +1,15 @@
 -- How a call of the program ends: as the top call, with gates and jobs that were made for it.
 use Rattle.std.specs.Prelude.{ℕ, ◌≡◌, ◌≢◌, ◌↔◌, true, List, Some, None}
+use Rattle.std.specs.Io.KnownBytes.{Keeps}
 use Rattle.command_words.specs.Words.{command_of, asks_to_execute}
 use Rattle.command_words.specs.declared.command.Command.{Command}
 use Rattle.command_words.specs.declared.command.Command.TheVariants.{Read}
 use Rattle.command_words.specs.declared.command.Reading.TheVariants.{Check}
 use Rattle.pure_commands.specs.Commands.{of_trace}
-use Rattle.pure_commands.specs.Ends.{Streams, ErrorStream, IsDone}
+use Rattle.pure_commands.specs.Ends.{Streams, ErrorStream, IsDone, IsUsage}
 use Rattle.exit_status.specs.declared.Status.{Status}
 use Rattle.exit_status.specs.declared.Status.TheVariants.{Done, Invalid, Usage, NoMemory}
+use Rattle.run_tool.specs.Closing.{IsClosed}
 use Rattle.run_tool.specs.Ends.{IsCommandDone}
 use Rattle.run_tool.specs.Executed.{EndsWith}
 use Rattle.run_tool.specs.Executions.{Crew, IsFreshCrew}
@@ -33,3 +35,16 @@ pub record EndsAlone (words : List (List ℕ)) (old new : Streams) (err err' : E
   pub done : status ≡ Done → IsDoneWithOwn words old new
   pub invalid : status ≡ Invalid → (command_of words ≡ Some (Read Check)) × IsDone of_trace Invalid old new
   pub ends : (c : Command) → command_of words ≡ Some c → EndsWithOwn words c old new err err' status
+
+-- the program ended with this status: the words' command ended first, with a status and a line of its own, and then `out` was asked to
+-- hand on what it kept back, of which it keeps this
+pub record EndsClosed (words : List (List ℕ)) (old new : Streams) (err err' : ErrorStream) (kept : List ℕ) (result : Status) : Type 0 where
+  pub status : Status
+  pub mid : Streams
+  pub told : ErrorStream
+  pub ends : EndsAlone words old mid err told status
+  pub unread : command_of words ≡ None → IsUsage old mid err told status
+  pub left : new.left ≡ mid.left
+  pub read_faults : new.read_faults ≡ mid.read_faults
+  pub out : Keeps mid.out new.out
+  pub closed : IsClosed status result kept mid.out_faults new.out_faults told err'

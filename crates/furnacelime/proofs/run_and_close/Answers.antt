@@ -2,6 +2,22 @@ use Rattle.std.proofs.Common.{refl}
 use Rattle.run_tool.proofs.ClosedLemmas.{usage_closed, done_closed, command_closed}
 use Rattle.furnacelime.proofs.run_and_close.Goals as goal
 
+pub returns-clause-ends : goal.returns-clause-ends
+returns-clause-ends g c =
+    let run = c.run_words-status.ensures in
+    let close = c.close_run.ensures in
+    record {
+      status = _;
+      mid = _;
+      told = _;
+      ends = run.ends;
+      unread = run.unread;
+      left = refl;
+      read_faults = refl;
+      out = close.kept;
+      closed = close.closed;
+    }
+
 pub returns-clause-usage : goal.returns-clause-usage
 returns-clause-usage g c = usage_closed _ _ _ c.close_run.ensures.closed.status_is c.run_words-status.ensures.ends.usage
 
