@@ -3,8 +3,8 @@
 
 A unit is a microsecond. A task's work is the sum of its `run` and `runtime` events, its period that of its one `timer`, its offset its `delay`; a
 task of `dl-runtime` and `dl-period` without events has these. `instance` makes as many tasks. `global.duration` is the horizon, where --horizon
-isn't given. A task that is something else (several phases, locks, sleeps) is no periodic task, and is refused by name. That a task is bound to
-some processors (`cpus`) is left out, and told on standard error.
+isn't given. A task that is something else (several phases, locks, sleeps) is no periodic task, and is refused by name; so is one whose `dl-deadline`
+isn't its period. That a task is bound to some processors (`cpus`) is left out, and told on standard error.
 """
 import json
 import re
@@ -55,10 +55,13 @@ def numbers_of(name, task):
         period = timers[0].get("period")
     else:
         raise Fault(f"task {name} has {len(timers)} timers, and not one")
+    period = whole(period, f"the period of task {name}", 1)
+    if "dl-deadline" in events and whole(events["dl-deadline"], f"the deadline of task {name}") != period:
+        raise Fault(f"the deadline of task {name} is {events['dl-deadline']}, and its period {period}")
     if events.get("cpus") is not None:
         note(f"task {name} may run on all processors, and not only on {events['cpus']}")
     total = sum(whole(value, f"a run of task {name}") for value in work)
-    return total, whole(period, f"the period of task {name}", 1), whole(events.get("delay", 0), f"the delay of task {name}")
+    return total, period, whole(events.get("delay", 0), f"the delay of task {name}")
 
 
 def convert(text, given):

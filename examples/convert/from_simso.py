@@ -2,9 +2,10 @@
 """A task set of a simulation of SimSo: from_simso.py < simulation.xml > set.toml
 
 Processors, periods, worst-case times (WCET) and activation dates are taken; the horizon is the simulation's duration, where --horizon isn't given. A
-unit is the longest in which all of these are whole, and is told in the first line of the set. A deadline before the period's end becomes the period,
-and that is told on standard error: the task then gets more than it needs. Tasks that aren't periodic, processors that aren't alike and deadlines behind
-the period are refused.
+unit is the longest in which all of these are whole, and is told in the first line of the set. Where the deadline is before the period's end, the period
+becomes the longest part of it (a half, a third ..) that ends by the deadline, and that is told on standard error: each job then has its work by its
+deadline, and the task gets more than it needs. Tasks that aren't periodic, processors that aren't alike, deadlines of 0 or behind the period, and work
+that is longer than that part are refused.
 """
 import math
 import xml.etree.ElementTree as xml
@@ -34,9 +35,13 @@ def times_of(task):
     deadline = milliseconds(task, "deadline", task.get("period"))
     if deadline > period:
         raise Fault(f"the deadline of {name} is behind its period")
+    if deadline == 0:
+        raise Fault(f"the deadline of {name} is 0")
     if deadline < period:
-        note(f"{name} has the period {deadline} ms, its deadline, and not {period} ms")
-    return name, milliseconds(task, "WCET"), deadline, milliseconds(task, "activationDate", "0")
+        part = period / math.ceil(period / deadline)
+        note(f"{name} has the period {part} ms, the longest part of its {period} ms that ends by its deadline, {deadline} ms")
+        period = part
+    return name, milliseconds(task, "WCET"), period, milliseconds(task, "activationDate", "0")
 
 
 def convert(text, given):

@@ -57,6 +57,8 @@ refused 6 '{"tasks": {"a": {"run": 1}}}' from_rt_app.py --processors 1
 refused 6 '{"tasks": {"a": {"phases": {"p": {}, "q": {}}}}}' from_rt_app.py --processors 1
 refused 6 '{"tasks": {"a": []}}' from_rt_app.py --processors 1
 refused 6 '{"tasks": {"a": {"instance": 300, "run": 1, "timer": {"period": 9}}}}' from_rt_app.py --processors 1
+refused 6 '{"tasks": {"a": {"dl-runtime": 1, "dl-period": 9, "dl-deadline": 4}}}' from_rt_app.py --processors 1
+refused 6 '{"tasks": {"a": {"run": 1, "timer": {"period": 9}, "dl-deadline": 10}}}' from_rt_app.py --processors 1
 refused 6 '<simulation' from_simso.py
 refused 6 '<other/>' from_simso.py
 refused 6 '<simulation duration="1"/>' from_simso.py
@@ -65,6 +67,8 @@ simso 'period="1"'
 simso 'period="1" WCET="x"'
 simso 'period="1" WCET="-1"'
 simso 'period="1" WCET="1" deadline="2"'
+simso 'period="1" WCET="1" deadline="0"'
+simso 'period="4" WCET="3" deadline="3"'
 simso 'period="1" WCET="1" task_type="Sporadic"'
 refused 6 'run-tree 1\n' to_perfetto.py
 refused 6 'run-trace 1\nscale 1\ntask a 1 1\nrow 0 0 1 b\n' to_perfetto.py
