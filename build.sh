@@ -18,7 +18,9 @@ libraries=$top/.git/build
 say() { echo "furnacelime: $*" >&2; }
 
 grep -q "^${wanted}[ :]" "$top/crates.txt" || { say "there is no crate $wanted"; exit 2; }
-command -v rt >/dev/null || { say "the command rt of the Rattle kit is needed to build the program"; exit 127; }
+for tool in rt setsid; do
+    command -v "$tool" >/dev/null || { say "the command $tool is needed to build the program (rt is the Rattle kit's)"; exit 127; }
+done
 kit=$(dirname "$(dirname "$(readlink -f "$(command -v rt)")")")
 
 # One build at a time works on the libraries.
@@ -34,7 +36,7 @@ mkfifo "$work/endings" && exec 8<>"$work/endings" || exit 126
 # Ends the builds that go on, each with all that it called.
 stop() { for it in "$work"/*.group; do [ -e "$it" ] && kill -- "-$(cat "$it")" 2>/dev/null; done; }
 trap 'rm -rf "$work"' EXIT
-trap 'echo >&2; say "stopped; what is done is kept, and the next call goes on"; stop; wait; exit 130' INT TERM
+trap 'echo >&2; say "stopped; what is done is kept, and the next call goes on"; stop; wait; exit 130' INT TERM HUP
 
 # The length of a crate's code. What a crate takes goes by that, and not by the length of its proofs.
 size_of() { find "$top/crates/$1/src" -type f -exec cat {} + 2>/dev/null | wc -c; }
@@ -211,6 +213,7 @@ by_kit() {
     say "the compiler of this kit takes other words; the command rt builds $wanted in its own way, which takes longer"
     stop
     cd "$top/crates/$wanted" || exit 126
+    rm -rf "$(made_of "$wanted")"
     case $(kind_of "$wanted") in
     program) rt run </dev/null >"$work/log" 2>&1; status=$? ;;
     *) rt lib >"$work/log" 2>&1; status=$? ;;

@@ -4,15 +4,18 @@
 #     PREFIX=/usr/local DESTDIR= sh install.sh
 #
 # PREFIX is where it is to stand, DESTDIR a folder that is put in front of it for the time being, as for a package; LIBDIR (PREFIX/lib) and PYTHONDIR
-# (PREFIX/lib/python3/dist-packages) may be given too. What isn't built yet is proved and built first (build.sh); where a source is newer than what is
-# built nothing is installed, unless AS_BUILT is set. What is installed needs the C library of the system and sh, and neither the kit nor this
-# repository. Nothing is written where something that is needed is missing.
+# (where python3 looks for modules below PREFIX, else PREFIX/lib/python3/dist-packages) may be given too. What isn't built yet is proved and built first
+# (build.sh); where a source is newer than what is built nothing is installed, unless AS_BUILT is set. What is installed needs the C library of the system
+# and sh, and neither the kit nor this repository. Nothing is written where something that is needed is missing.
 set -eu
 umask 022
 top=$(dirname "$(readlink -f "$0")")
 PREFIX=${PREFIX:-/usr/local}
 LIBDIR=${LIBDIR:-$PREFIX/lib}
-PYTHONDIR=${PYTHONDIR:-$PREFIX/lib/python3/dist-packages}
+# Where Python looks for modules below PREFIX; Debian's has other folders below /usr/local than below /usr.
+searched=$(python3 -c 'import site, sys
+print(next((it for it in site.getsitepackages() if it.startswith(sys.argv[1] + "/lib/")), ""))' "$PREFIX" 2>/dev/null) || searched=
+PYTHONDIR=${PYTHONDIR:-${searched:-$PREFIX/lib/python3/dist-packages}}
 DESTDIR=${DESTDIR:-}
 
 stop() {
@@ -43,7 +46,7 @@ archive=$top/crates/furnacelime_c/out/libfurnacelime_c.a
 [ -f "$archive" ] || sh "$top/build.sh" furnacelime_c
 for made in "$program" "$archive"; do
     [ -z "${AS_BUILT-}" ] || break
-    newer=$(find "$top/crates.txt" "$top"/crates/*/src -newer "$made" -type f -print | head -n 1)
+    newer=$(find "$top/crates.txt" "$top"/crates/*/src "$top"/crates/*/specs -newer "$made" -type f -print 2>/dev/null | head -n 1)
     [ -z "$newer" ] || stop "$newer is newer than $made; sh build.sh and sh build.sh furnacelime_c build them anew"
 done
 
@@ -87,15 +90,17 @@ Cflags: -I\${includedir}
 END
 put 644 "$work/furnacelime.pc" "$LIBDIR/pkgconfig/furnacelime.pc"
 
-# Documents and examples.
+# Documents and examples. The pages stand in one folder, so their links lose the folders of the repository.
 share=$PREFIX/share/doc/furnacelime
-for page in "$top/README.md" "$top/CHANGELOG.md" "$top"/docs/*.md; do
-    put 644 "$page" "$share/${page##*/}"
+for page in "$top/README.md" "$top/CHANGELOG.md" "$top/CONTRIBUTING.md" "$top"/docs/*.md; do
+    sed 's|](docs/|](|g; s|](\.\./|](|g' "$page" >"$work/page"
+    put 644 "$work/page" "$share/${page##*/}"
 done
+put 644 "$top/bench/README.md" "$share/bench/README.md"
 for picture in "$top"/docs/pictures/*; do
     put 644 "$picture" "$share/pictures/${picture##*/}"
 done
-(cd "$top/examples" && find . -type f ! -name '*.pyc' ! -name try.sh ! -name furnacelime.py) | while read -r file; do
+(cd "$top/examples" && find . -type f ! -name '*.pyc' ! -name '*.so' ! -name try.sh ! -name furnacelime.py) | while read -r file; do
     mode=644
     [ ! -x "$top/examples/$file" ] || mode=755
     put "$mode" "$top/examples/$file" "$share/examples/${file#./}"
@@ -105,3 +110,4 @@ if ! { mkdir -p "$DESTDIR/" && cp -R "$tree/." "$DESTDIR/"; }; then
     stop "$DESTDIR$PREFIX can't be written"
 fi
 echo "install: version $version stands in $DESTDIR$PREFIX" >&2
+[ -n "$DESTDIR" ] || echo "install: ldconfig makes the library known; the module for Python stands in $PYTHONDIR" >&2

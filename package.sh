@@ -16,9 +16,11 @@ stop() {
 
 [ "$#" -le 1 ] || stop "takes one folder at most"
 [ -d "$to" ] || stop "there is no folder $to"
-for tool in dpkg dpkg-deb objdump; do
+for tool in cc dpkg dpkg-deb gzip objdump; do
     command -v "$tool" >/dev/null || stop "the command $tool is needed"
 done
+multiarch=$(cc -print-multiarch 2>/dev/null) || multiarch=
+[ -n "$multiarch" ] || stop "cc knows no folder of libraries for this machine (cc -print-multiarch)"
 read -r version <"$top/VERSION"
 machine=$(dpkg --print-architecture)
 
@@ -26,11 +28,11 @@ work=$(mktemp -d)
 trap 'rm -rf "$work"' EXIT
 trap 'exit 130' INT TERM HUP
 tree=$work/tree
-PREFIX=/usr DESTDIR=$tree LIBDIR=/usr/lib/$(cc -print-multiarch) PYTHONDIR=/usr/lib/python3/dist-packages sh "$top/install.sh"
+PREFIX=/usr DESTDIR=$tree LIBDIR=/usr/lib/$multiarch PYTHONDIR=/usr/lib/python3/dist-packages sh "$top/install.sh"
 gzip -9n "$tree/usr/share/man/man1/furnacelime.1"
 
 # The oldest C library that has all that is called.
-libc=$(objdump -T "$tree/usr/libexec/furnacelime/furnacelime" "$tree"/usr/lib/*/libfurnacelime.so.*.*.* |
+libc=$(objdump -T "$tree/usr/libexec/furnacelime/furnacelime" "$tree/usr/lib/$multiarch"/libfurnacelime.so.*.*.* |
     sed -n 's/.*GLIBC_\([0-9.]*\).*/\1/p' | sort -V | tail -n 1)
 mkdir "$tree/DEBIAN"
 cat >"$tree/DEBIAN/control" <<END
