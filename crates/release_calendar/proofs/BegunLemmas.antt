@@ -1,7 +1,7 @@
 -- Lists of what begins at a unit.
 use Rattle.std.proofs.Common.{◌≡◌, ◌≢◌, ℕ, zero, suc, ◌+◌, ◌<◌, ◌≤◌, ◌++◌, ◌==◌, Bool, true, false, List, [], ◌∷◌, length, take, refl, ap, arith, inl}
 use Rattle.std.proofs.Common.{inr, sym, ◌∙◌, eq-eqb, get_or, get_or-set_same, get_or-set_other}
-use Rattle.std.proofs.lemmas.Bool.{cases_eq, cases_lt, both_ways}
+use Rattle.std.proofs.lemmas.Bool.{cases_eq, cases_lt}
 use Rattle.std.proofs.lemmas.List.{length-map, length-take-le, length-append, map-append, get_or-map, get_or-take, take_more_set}
 use Rattle.std.proofs.Math.ListN.{set}
 use Rattle.sched_base.specs.Counting.{bit}

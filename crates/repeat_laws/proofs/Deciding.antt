@@ -1,7 +1,7 @@
 -- What is decided over rows: whether they stand again, and from where on they come again.
 use Rattle.std.proofs.Common.{Bool, List, [], ◌∷◌, length, ap, arith, cond, inl, inr, refl, subst, sym, true, false, zero, suc, eqb, eq-eqb}
-use Rattle.std.proofs.Common.{ℕ, ◌+◌, ◌-◌, ◌*◌, ◌<◌, ◌∙◌, ◌≡◌, ◌≤◌, ◌&&◌, ◌↔◌}
-use Rattle.std.specs.Prelude.{nat_le, nat_eq}
+use Rattle.std.proofs.Common.{ℕ, ◌+◌, ◌-◌, ◌*◌, ◌<◌, ◌∙◌, ◌≡◌, ◌≤◌, ◌↔◌}
+use Rattle.std.specs.Prelude.{nat_le}
 use Rattle.std.proofs.lemmas.Bool.{and_from, and_parts, cases_Bool, cond-true, cond-false, eqb-true, le-leb, leb-true}
 use Rattle.std.specs.Int.{◌∣◌}
 use Rattle.std.proofs.lemmas.Nat.Gcd.{dvd-zero}
@@ -11,7 +11,7 @@ use Rattle.sched_base.specs.declared.sets.Task as declared
 use Rattle.sched_base.specs.Scale.{IsScale, PeriodsDivide}
 use Rattle.sched_base.specs.Sets.{SetContents, task_at}
 use Rattle.sched_base.specs.Valid.{IsValid}
-use Rattle.repeat_laws.specs.Repeats.{CanRepeat, ComesAgain, NoneIsOpen, StandsAgain, can_repeat, ends_again, given, given_again, open_since}
+use Rattle.repeat_laws.specs.Repeats.{CanRepeat, ComesAgain, StandsAgain, can_repeat, ends_again, given, given_again, open_since}
 use Rattle.repeat_laws.specs.Repeats.{repeat_unit, repeated_from, stands_again}
 use Rattle.repeat_laws.proofs.CanRepeats.{can_repeat_true, true_can_repeat}
 use Rattle.repeat_laws.proofs.Repeating.{all_by_number, of_task}

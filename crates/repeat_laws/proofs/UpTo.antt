@@ -1,5 +1,5 @@
 -- The same set up to another horizon, task by task.
-use Rattle.std.proofs.Common.{List, [], ◌∷◌, length, arith, get_or, subst, sym, take, zero, suc, ℕ, ◌<◌, ◌∙◌, ◌≡◌, ◌≢◌}
+use Rattle.std.proofs.Common.{List, [], ◌∷◌, length, arith, get_or, subst, sym, take, zero, suc, ℕ, ◌<◌, ◌≡◌, ◌≢◌}
 use Rattle.std.specs.List.{AllByRecursion}
 use Rattle.sched_base.specs.declared.sets.Task.{Task}
 use Rattle.sched_base.specs.Sets.{IsFree, IsLawfulTask, NamesDiffer}

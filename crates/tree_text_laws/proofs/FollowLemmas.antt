@@ -1,5 +1,5 @@
 -- The text of a plan's tree is read as that of a tree that runs as the plan's.
-use Rattle.std.proofs.Common.{ℕ, ◌^◌, ◌≤◌, map, length, ap, arith, sym, ◌∙◌}
+use Rattle.std.proofs.Common.{ℕ, ◌^◌, ◌≤◌, map, ap, arith, sym, ◌∙◌}
 use Rattle.std.proofs.lemmas.List.{length-map}
 use Rattle.sched_base.specs.Scale.{IsScale, Fits, rate_of}
 use Rattle.sched_base.specs.Sets.{SetContents, IsLawful}

@@ -1,9 +1,8 @@
-use Rattle.std.proofs.Common.{arith, ap, sym, take, ◌∙◌, ◌&&◌, ◌<◌, ◌≤◌, get_or, not, ℕ, List, subst, subst₂, length}
+use Rattle.std.proofs.Common.{arith, ap, sym, take, ◌∙◌, ◌<◌, ◌≤◌, get_or, ℕ, List, subst, subst₂, length}
 use Rattle.std.specs.Prelude.{◌≡◌, IfSome}
-use Rattle.run_tree.specs.Tree.{IsMember, kind_at, is_pack, numbers}
+use Rattle.run_tree.specs.Tree.{IsMember, numbers}
 use Rattle.std.proofs.lemmas.List.{with_items_is}
 use Rattle.sched_base.specs.declared.rows.NodeId.{NodeId}
-use Rattle.run_tree.specs.Plans.{boundary_of}
 use Rattle.release_calendar.specs.Calendars.{CalendarContents, AreDue, AreReady, AreSteps, EndsFit, PacksNeverEnd}
 use Rattle.release_calendar.proofs.TurnLemmas.{belongs_written, kept_written, ready_next}
 use Rattle.release_calendar.proofs.OrderLemmas.{begins_earlier}

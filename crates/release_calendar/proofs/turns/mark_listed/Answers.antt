@@ -1,5 +1,4 @@
-use Rattle.std.proofs.Common.{arith, refl, take, ◌+◌, ◌∙◌, sym, get_or, ◌<◌, ℕ, subst, length}
-use Rattle.sched_base.specs.declared.rows.NodeId.{NodeId}
+use Rattle.std.proofs.Common.{arith, refl, take, ◌+◌, get_or}
 use Rattle.run_tree.specs.Tree.{numbers}
 use Rattle.release_calendar.proofs.BegunLemmas.{listed_step}
 use Rattle.release_calendar.proofs.ListedTurns.{first_among, first_more, no_node}

@@ -1,4 +1,4 @@
-use Rattle.std.proofs.Common.{arith, length, refl, ◌∙◌}
+use Rattle.std.proofs.Common.{arith, length, refl}
 use Rattle.release_calendar.proofs.NextLemmas.{first_end_is}
 use Rattle.release_calendar.proofs.OrderLemmas.{all_turned, least_of_leaves}
 use Rattle.release_calendar.proofs.ListedTurns.{due_listed, turning_none}

@@ -1,4 +1,4 @@
-use Rattle.std.proofs.Common.{◌≡◌, subst, sym, List}
+use Rattle.std.proofs.Common.{◌≡◌}
 use Rattle.std.specs.Int.{◌∣◌}
 use Rattle.repeat_laws.proofs.Repeating.{of_task}
 use Rattle.repeat_laws.proofs.sets.is_closed.Goals as goal
