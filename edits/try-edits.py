@@ -152,7 +152,7 @@ def told_of(told, changed):
                 failed.append(found[3])
         for found in re.finditer(rf"^\./proofs/(?:\S+/)?{name or '[^/]+'}/\S+: error: `([^`]*)`: (.*)$", told, re.M):
             (gone if GONE.search(found[2]) else failed).append(found[1])
-        proved = proved or bool(re.search(rf"^fn \S*\b{name}: proved$" if name else "^logic=proved", told, re.M))
+        proved = proved or bool(re.search(rf"^fn \S*\b{name}: proved(, may .*)?$" if name else "^logic=proved", told, re.M))
     if failed:
         return "refused", "; ".join(dict.fromkeys(failed))
     if gone:
