@@ -6,7 +6,7 @@ use Rattle.std.specs.Prelude.{slice_get}
 use Rattle.std.proofs.lemmas.List.{map-append, length-append}
 use Rattle.sched_base.specs.declared.rows.Row.{Row}
 use Rattle.exec_lanes.specs.declared.kits.Kit.{Kit}
-use Rattle.run_tool.specs.Executions.{GateSeen, JobSeen, gates_of, jobs_of, IsFreshCrew}
+use Rattle.run_tool.specs.Executions.{GateSeen, JobSeen, Holds, gates_of, jobs_of, IsFreshCrew}
 use Rattle.run_tool.proofs.CrewMade.{crew}
 use Rattle.run_tool.specs.Ready.{AreFirstGates, AreFirstJobs}
 
@@ -109,3 +109,53 @@ are_ready n m enough all g j = record {
   count = let count = j.count in omega (arith, count, all);
   jobs = λ i within. j.unused i (omega (arith, within, all));
 }
+
+-- ---- what a job is made of, and how often a gate failed
+
+-- what is so of each job that is there is so with one more of which it is so
+each-pushed : {X : Type 0} (P : X → Type 0) (xs : List (Option X)) (y : X) → ((i : ℕ) (x : X) → slice_get xs i ≡ Some (Some x) → P x) → P y
+    → (i : ℕ) (x : X) → slice_get (xs ++ Some y ∷ []) i ≡ Some (Some x) → P x
+each-pushed {X} P [] y each last zero x at =
+    let is : ◌≡◌ {A = Option (Option X)} (Some (Some y)) (Some (Some x)) = at in
+    let same : y ≡ x = cc in
+    subst P same last
+each-pushed {X} P [] y each last (suc i) x at = absurd (let bad : ◌≡◌ {A = Option (Option X)} None (Some (Some x)) = at in cc)
+each-pushed P (z ∷ zs) y each last zero x at = each zero x at
+each-pushed P (z ∷ zs) y each last (suc i) x at = each-pushed P zs y (λ i x at. each (suc i) x at) last i x at
+
+-- each job that is there is made of this
+abbrev pub AreMadeOf : Option (ℕ × List ℕ) → List (Option JobSeen) → Type 0
+AreMadeOf what jobs = (i : ℕ) (j : JobSeen) → Holds jobs i j → j.made ≡ what
+
+module _ {J : Type 0} (id used faults : J → ℕ) (made : J → Option (ℕ × List ℕ)) (what : Option (ℕ × List ℕ)) where
+  -- before the first job
+  pub none_made_of : (places : List (Option J)) → places ≡ [] → AreMadeOf what (jobs_of id used faults made places)
+  none_made_of places none =
+      subst (λ places. AreMadeOf what (jobs_of id used faults made places)) (sym none)
+      (λ i j at. absurd (let bad : ◌≡◌ {A = Option (Option JobSeen)} None (Some (Some j)) = at in cc))
+
+  -- one job more, which is made of it
+  pub one_more_made_of : (places places' : List (Option J)) (job : J) → AreMadeOf what (jobs_of id used faults made places)
+      → places' ≡ places ++ Some job ∷ [] → made job ≡ what → AreMadeOf what (jobs_of id used faults made places')
+  one_more_made_of places places' job so_far is own =
+      subst (λ jobs. AreMadeOf what jobs)
+      (sym (ap (jobs_of id used faults made) is
+      ∙ map-append (λ place. option_map (λ j. record { id = id j; used = used j; faults = faults j; made = made j }) place) places (Some job ∷ [])))
+      (each-pushed (λ j. j.made ≡ what) (jobs_of id used faults made places) (record { id = id job; used = used job; faults = faults job; made = made job })
+      so_far own)
+
+in_kit : {G : Type 0} (ran : G → Option (List Row)) (gate : Option G) (g : GateSeen)
+    → ◌≡◌ {A = Option (Option GateSeen)} (Some (option_map (λ gate. record { ran = ran gate; faults = 0 }) gate)) (Some (Some g)) → g.faults ≡ 0
+in_kit ran None g at = absurd (let bad : ◌≡◌ {A = Option (Option GateSeen)} (Some None) (Some (Some g)) = at in cc)
+in_kit ran (Some gate) g at =
+    let seen : GateSeen = record { ran = ran gate; faults = 0 } in
+    let is : ◌≡◌ {A = Option (Option GateSeen)} (Some (Some seen)) (Some (Some g)) = at in
+    let same : seen ≡ g = cc in
+    sym (ap (λ (x : GateSeen). x.faults) same)
+
+-- gates whose count of faults stays 0 haven't failed
+pub never_failed : {G : Type 0} (ran : G → Option (List Row)) (kits : List (Kit G)) (q : ℕ) (g : GateSeen) → Holds (gates_of ran (λ _. 0) kits) q g
+    → g.faults ≡ 0
+never_failed ran [] q g at = absurd (let bad : ◌≡◌ {A = Option (Option GateSeen)} None (Some (Some g)) = at in cc)
+never_failed ran (kit ∷ kits) zero g at = in_kit ran kit.gate g at
+never_failed ran (kit ∷ kits) (suc q) g at = never_failed ran kits q g at

@@ -1,5 +1,5 @@
 -- How a call of the program ends: as the top call, with gates and jobs that were made for it.
-use Rattle.std.specs.Prelude.{ℕ, ◌≡◌, ◌≢◌, ◌↔◌, true, List, Some, None}
+use Rattle.std.specs.Prelude.{ℕ, ◌≡◌, ◌≢◌, ◌↔◌, true, List, [], Some, None}
 use Rattle.std.specs.Io.KnownBytes.{Keeps}
 use Rattle.command_words.specs.Words.{command_of, asks_to_execute}
 use Rattle.command_words.specs.declared.command.Command.{Command}
@@ -12,21 +12,33 @@ use Rattle.exit_status.specs.declared.Status.TheVariants.{Done, Invalid, Usage, 
 use Rattle.run_tool.specs.Closing.{IsClosed}
 use Rattle.run_tool.specs.Ends.{IsCommandDone}
 use Rattle.run_tool.specs.Executed.{EndsWith}
-use Rattle.run_tool.specs.Executions.{Crew, IsFreshCrew}
+use Rattle.run_tool.specs.Executions.{GateSeen, JobSeen, Crew, Holds, IsFreshCrew}
 
--- the command ended with this status; an execution that memory wasn't refused to began with a fresh crew
+-- each job runs a program, which is the empty one so far, in units of one tick
+abbrev pub RunPrograms : Crew → Type 0
+RunPrograms c = (i : ℕ) (j : JobSeen) → Holds c.jobs i j → j.made ≡ Some (1, [])
+
+-- no gate has failed
+abbrev pub AreSure : Crew → Type 0
+AreSure c = (q : ℕ) (g : GateSeen) → Holds c.gates q g → g.faults ≡ 0
+
+-- the command ended with this status; an execution that memory wasn't refused to began with a fresh crew, whose jobs run programs and
+-- whose gates don't fail
 pub record EndsWithOwn (words : List (List ℕ)) (c : Command) (old new : Streams) (err err' : ErrorStream) (status : Status) : Type 0 where
   pub before : Crew
   pub now : Crew
   pub fresh : asks_to_execute words ≡ true → status ≢ NoMemory → IsFreshCrew before
+  pub programs : RunPrograms before
+  pub sure : AreSure now
   pub ends : EndsWith c old new err err' before now status
 
--- the command was done; an execution began with a fresh crew
+-- the command was done; an execution began with a fresh crew, whose jobs run programs
 pub record IsDoneWithOwn (words : List (List ℕ)) (old new : Streams) : Type 0 where
   pub command : Command
   pub asked : command_of words ≡ Some command
   pub before : Crew
   pub fresh : asks_to_execute words ≡ true → IsFreshCrew before
+  pub programs : RunPrograms before
   pub done : IsCommandDone command Done old new before
 
 -- the clauses of the top call

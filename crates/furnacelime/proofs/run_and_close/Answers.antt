@@ -29,5 +29,6 @@ returns-clause-done g c = λ is.
       asked = own.asked;
       before = own.before;
       fresh = own.fresh;
+      programs = own.programs;
       done = command_closed _ _ _ _ c.close_run.ensures.kept own.command own.before own.done;
     }

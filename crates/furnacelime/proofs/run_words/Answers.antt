@@ -5,7 +5,7 @@ use Rattle.pure_commands.specs.Refuse.{IsRefused}
 use Rattle.pure_commands.specs.declared.refusal.Refusal.TheVariants as why
 use Rattle.pure_commands.proofs.EndLemmas.{keeps_same}
 use Rattle.run_tool.specs.Alone.{EndsAlone}
-use Rattle.run_tool.proofs.AloneLemmas.{alone_still, alone_unmade, unread_unmade}
+use Rattle.run_tool.proofs.AloneLemmas.{alone_still, alone_unmade}
 use Rattle.run_tool.proofs.RunLemmas.{unread_same}
 use Rattle.furnacelime.proofs.run_words.Goals as goal
 
