@@ -7,6 +7,7 @@ ghost use Rattle.sched_edges.specs.Jobs.{JobAt, CountHeld};
 ghost use Rattle.plan_rounds.specs.PlanRows.{IsCompiled};
 
 mod halts;
+mod ledgers;
 mod machines;
 mod steps;
 mod worker_calls;

@@ -1,1 +1,2 @@
 pub mod LongTableLemmas
+pub mod MadeTreeLemmas

@@ -8,7 +8,7 @@ use exec_workers::Kit;
 use job_vm::VmJob;
 use run_tool::{Status, run};
 use sched_edges::{
-    BoxedJob, FailJob, Gate, Job, JobList, Jobs, ListGate, MemSink, MemSource, read_all,
+    BoxedJob, CountJob, FailJob, Gate, Job, JobList, Jobs, ListGate, MemSink, MemSource, read_all,
 };
 use std::alloc::Global;
 use std::process::Abort;
@@ -20,6 +20,19 @@ const GATES: u32 = 32;
 
 /// The most tasks, each of which has a job.
 const JOBS: u32 = 256;
+
+/// What the jobs are.
+#[derive(Clone, Copy)]
+pub(super) enum JobKinds {
+    /// Each runs a program.
+    Programs,
+    /// Each counts its ticks.
+    Counts,
+    /// Each counts its ticks and could fail, and none does.
+    Sure,
+    /// That of this task fails at this call, and each other one runs a program.
+    Fails(u32, u64),
+}
 
 /// What is outside a call. Calls are numbered from 1.
 #[derive(Clone, Copy)]
@@ -38,8 +51,8 @@ pub(super) struct Outside {
     pub gate: Option<(u32, u64)>,
     /// The rows that each gate has room for.
     pub gate_room: usize,
-    /// The job of a task, and its call that fails.
-    pub job: Option<(u32, u64)>,
+    /// What the jobs are.
+    pub jobs: JobKinds,
 }
 
 /// Nothing fails.
@@ -51,7 +64,7 @@ pub(super) const SURE: Outside = Outside {
     err_room: 4096,
     gate: None,
     gate_room: 16,
-    job: None,
+    jobs: JobKinds::Programs,
 };
 
 /// What a job tells after a call.
@@ -131,13 +144,17 @@ pub(super) fn call_with<G: Gate + Send, X: Abort + Threads + Wait + Sync>(
 {
     let mut jobs = Jobs::with_room(alloc, JOBS).expect(rt, "there is memory");
     for id in 0..JOBS {
-        match failing(outside, id) {
-            Some(call) => {
-                let job = FailJob::new(alloc, id, &[call]).expect(rt, "there is memory");
+        match kind_of(outside, id) {
+            JobKind::Fail(call) => {
+                let job = failing(rt, alloc, id, call);
                 jobs.add(Box::new(alloc, job).expect(rt, "there is memory"));
             }
-            None => {
+            JobKind::Program => {
                 let job = VmJob::new(alloc, id);
+                jobs.add(Box::new(alloc, job).expect(rt, "there is memory"));
+            }
+            JobKind::Count => {
+                let job = CountJob::new(id);
                 jobs.add(Box::new(alloc, job).expect(rt, "there is memory"));
             }
         }
@@ -192,12 +209,33 @@ fn gate_of(rt: &impl Abort, alloc: Global, outside: &Outside, p: u32) -> ListGat
     }
 }
 
-// The call at which the job of this task fails, if it does.
-fn failing(outside: &Outside, id: u32) -> Option<u64> {
-    match outside.job {
-        Some((task, call)) if task == id => Some(call),
-        _ => None,
+/// What a job is.
+#[derive(Clone, Copy)]
+enum JobKind {
+    Program,
+    Count,
+    /// It fails at this call; at none where that is 0.
+    Fail(u64),
+}
+
+// What the job of this task is.
+fn kind_of(outside: &Outside, id: u32) -> JobKind {
+    match outside.jobs {
+        JobKinds::Counts => JobKind::Count,
+        JobKinds::Sure => JobKind::Fail(0),
+        JobKinds::Fails(task, call) if task == id => JobKind::Fail(call),
+        JobKinds::Programs | JobKinds::Fails(_, _) => JobKind::Program,
     }
+}
+
+// The job of a task, which fails at this call, or at none where that is 0.
+fn failing(rt: &impl Abort, alloc: Global, id: u32, call: u64) -> FailJob
+    ensures id { result.id ≡ id }
+    ensures used { result.used ≡ 0 }
+{
+    let calls = [call];
+    let fails = if call > 0 { calls.as_slice() } else { &[] };
+    FailJob::new(alloc, id, fails).expect(rt, "there is memory")
 }
 
 // How many bytes the source has still to give.

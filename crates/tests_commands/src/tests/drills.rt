@@ -1,6 +1,6 @@
 //! Drills: task sets that are drawn from a number, executed and judged.
 
-use super::calls::{Outside, SURE};
+use super::calls::{JobKinds, Outside, SURE};
 use super::cases::{Cases, FaultCase, ReportCase, ShownCase, Table, assert_tables};
 use super::lanes::Did;
 use run_tool::Status;
@@ -31,6 +31,15 @@ const LAST: &str =
         {name = \"t5\", work = 18, period = 30}, {name = \"t6\", work = 6, period = 12}, {name = \"t7\", work = 2, period = 20}, \
         {name = \"t8\", work = 5, period = 5}, {name = \"t9\", work = 1, period = 20}, {name = \"t10\", work = 6, period = 30}, \
         {name = \"t11\", work = 11, period = 30}, {name = \"t12\", work = 1, period = 15}]\n";
+
+/// The set that words of zero make.
+const ZEROS: &str =
+    "processors = 4\nhorizon = 6000\ntask = [{name = \"t0\", work = 1, period = 4}, {name = \"t1\", work = 1, period = 4}, \
+        {name = \"t2\", work = 1, period = 4}, {name = \"t3\", work = 1, period = 4}, {name = \"t4\", work = 1, period = 4}, \
+        {name = \"t5\", work = 1, period = 4}, {name = \"t6\", work = 1, period = 4}, {name = \"t7\", work = 1, period = 4}, \
+        {name = \"t8\", work = 1, period = 4}, {name = \"t9\", work = 1, period = 4}, {name = \"t10\", work = 1, period = 4}, \
+        {name = \"t11\", work = 1, period = 4}, {name = \"t12\", work = 1, period = 4}, {name = \"t13\", work = 1, period = 4}, \
+        {name = \"t14\", work = 1, period = 4}, {name = \"t15\", work = 1, period = 4}]\n";
 
 /// What a drill tells and what its gates and jobs did. It reads nothing. The counts were worked out by a program outside, which goes
 /// tick by tick.
@@ -89,6 +98,12 @@ const RATES: &[ShownCase] = &[
         &[],
         "",
     ),
+    (
+        &[ZEROS],
+        "processors 4\nhorizon 6000\ntasks 16\nscale 4\n",
+        &[],
+        "total 16\nroom 16\nverdict fits\n",
+    ),
 ];
 
 /// What `check` tells of the traces of the sets has the counts that their drills tell.
@@ -105,6 +120,8 @@ const REPORTS: &[ReportCase] = &[
         &[LAST],
         "valid\nrows 9101\npreemptions 3800\nmigrations 1900\n",
     ),
+    // Each task runs alone, in the same ticks of each period: each round is a row, and none is cut short.
+    (&[ZEROS], "valid\nrows 24000\npreemptions 0\nmigrations 0\n"),
 ];
 
 /// Where a stream, a gate or a job fails, a drill stops as an execution does.
@@ -128,7 +145,7 @@ const FAULTS: &[FaultCase] = &[
     ),
     (
         Outside {
-            job: Some((2, 1)),
+            jobs: JobKinds::Fails(2, 1),
             ..ROOMY
         },
         Status::JobFault,

@@ -1,7 +1,9 @@
 //! Executions of worked sets: the text is that of `trace`, whatever the window.
 
-use super::calls::{Outside, SURE};
-use super::cases::{Cases, DoneCase, RefusedCase, Table, assert_call, assert_tables, text_of};
+use super::calls::{JobKinds, Outside, SURE};
+use super::cases::{
+    Cases, DoneCase, FaultCase, RefusedCase, Table, assert_call, assert_tables, text_of,
+};
 use super::lanes::{Did, Schedule};
 use super::texts::{
     FULL_MET, FULL_RATE, FULL_ROWS, LATE_ROWS, LATE_TASK, NINE_TASKS, NO_TASKS, NO_TASKS_ROWS,
@@ -19,7 +21,7 @@ const WINDOWED: &[DoneCase] = &[
     (&[TWO_REDUCTIONS], &[TWO_ROWS], Did::Ran(Schedule::Two)),
 ];
 
-const LATE: DoneCase = (&[LATE_TASK], &[LATE_ROWS], Did::Worked(&[4, 5]));
+const LATE: DoneCase = (&[LATE_TASK], &[LATE_ROWS], Did::Ran(Schedule::Late));
 
 const OTHER: &[DoneCase] = &[
     (&[NO_TASKS], &[NO_TASKS_ROWS], Did::Worked(&[])),
@@ -29,6 +31,30 @@ const OTHER: &[DoneCase] = &[
 ];
 
 const MET: &[DoneCase] = &[(&[FULL_RATE], &[FULL_MET], Did::Worked(&[3])), LATE];
+
+/// With jobs that only count, and with such as could fail.
+const OTHER_JOBS: &[FaultCase] = &[
+    (
+        Outside {
+            jobs: JobKinds::Counts,
+            ..SURE
+        },
+        Status::Done,
+        THREE_ROWS,
+        "",
+        Did::Ran(Schedule::Three),
+    ),
+    (
+        Outside {
+            jobs: JobKinds::Sure,
+            ..SURE
+        },
+        Status::Done,
+        THREE_ROWS,
+        "",
+        Did::Ran(Schedule::Three),
+    ),
+];
 
 /// A set that is refused calls no gate.
 const REFUSED: &[RefusedCase] = &[
@@ -68,6 +94,7 @@ const TABLES: &[Table] = &[
     (&["exec"], Cases::Done(OTHER)),
     (&["exec", "--met"], Cases::Done(MET)),
     (&["exec", "--window", "1"], Cases::Done(&[LATE])),
+    (&["exec"], Cases::Faults(&[THREE_TASKS], OTHER_JOBS)),
     (&["exec"], Cases::Refused(REFUSED)),
 ];
 

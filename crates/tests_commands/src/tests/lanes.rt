@@ -79,6 +79,20 @@ const TWO: &[&[Row]] = &[
     ],
 ];
 
+/// The task that is released late, and another.
+const LATE: &[&[Row]] = &[&[
+    row!(0, 0, 1, Leaf::Wait(TaskId(0))),
+    row!(0, 1, 2, B),
+    row!(0, 2, 3, B),
+    row!(0, 3, 4, A),
+    row!(0, 4, 5, A),
+    row!(0, 5, 6, B),
+    row!(0, 6, 7, B),
+    row!(0, 7, 8, A),
+    row!(0, 8, 9, A),
+    row!(0, 9, 10, B),
+]];
+
 /// A worked schedule.
 #[derive(Clone, Copy)]
 pub(super) enum Schedule {
@@ -88,6 +102,8 @@ pub(super) enum Schedule {
     Two,
     /// Of the three tasks, and of those that follow them as a mode.
     Modes,
+    /// Of the task that is released late, and another.
+    Late,
 }
 
 /// The rows of each processor that has some.
@@ -96,6 +112,7 @@ fn lanes_of(schedule: Schedule) -> &'static [&'static [Row]] {
         Schedule::Three => THREE,
         Schedule::Two => TWO,
         Schedule::Modes => MODES,
+        Schedule::Late => LATE,
     }
 }
 
@@ -105,6 +122,7 @@ fn ticks_of(schedule: Schedule) -> &'static [u128] {
         Schedule::Three => &[6, 6, 6],
         Schedule::Two => &[15, 15, 15, 15, 15],
         Schedule::Modes => &[8, 8, 4],
+        Schedule::Late => &[4, 5],
     }
 }
 

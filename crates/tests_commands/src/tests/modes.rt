@@ -1,6 +1,6 @@
 //! Sets that follow each other as modes, and the line `modes`.
 
-use super::calls::{Outside, SURE, Told, call};
+use super::calls::{JobKinds, Outside, SURE, Told, call};
 use super::cases::{Cases, DoneCase, FaultCase, RefusedCase, Table, assert_tables, shown};
 use super::lanes::{Did, Front, Schedule};
 use super::texts::{
@@ -258,7 +258,7 @@ const STOPS: &[FaultCase] = &[
     // The job of c has two rows in the first mode, so its third is in the second one.
     (
         Outside {
-            job: Some((2, 3)),
+            jobs: JobKinds::Fails(2, 3),
             ..SURE
         },
         Status::JobFault,

@@ -1,6 +1,6 @@
 //! Jobs that run programs.
 
-use super::calls::{Outside, SURE};
+use super::calls::{JobKinds, Outside, SURE};
 use super::cases::{Cases, DoneCase, FaultCase, RefusedCase, Table, assert_tables};
 use super::lanes::{Did, Schedule};
 use super::stops::THREE_STOPS;
@@ -244,7 +244,7 @@ const PROGRAMS: &[DoneCase] = &[
 /// A job without a program tells zeros: that of task a counts its calls, and none of them fails.
 const WITHOUT: &[FaultCase] = &[(
     Outside {
-        job: Some((0, 1_000_000)),
+        jobs: JobKinds::Fails(0, 1_000_000),
         ..SURE
     },
     Status::Done,

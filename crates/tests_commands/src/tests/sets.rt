@@ -30,6 +30,15 @@ const RATES: &[DoneCase] = &[
         ],
         Did::Nothing,
     ),
+    (
+        &[NINE_TASKS],
+        &[
+            "processors 4\nhorizon 1000000\ntasks 9\nscale 1000000\nrate control 600000\nrate sense 600000\nrate fuse 600000\nrate plan 600000\n\
+                rate video 600000\nrate log 200000\nrate net 300000\nrate store 300000\nrate health 200000\ntotal 4000000\nroom 4000000\n\
+                verdict fits\n",
+        ],
+        Did::Nothing,
+    ),
 ];
 
 const REFUSED: &[RefusedCase] = &[
@@ -66,6 +75,16 @@ const REFUSED: &[RefusedCase] = &[
         "refused 6 NotToml\n",
     ),
     (
+        &["processors = 0\nhorizon = 3\n"],
+        Status::BadInput,
+        "refused 6 BadProcessors 0\n",
+    ),
+    (
+        &["processors = 33\nhorizon = 0\n"],
+        Status::BadInput,
+        "refused 6 BadProcessors 33\n",
+    ),
+    (
         &["processors = -9223372036854775808\nhorizon = 3\n"],
         Status::BadInput,
         "refused 6 BadProcessors -9223372036854775808\n",
@@ -94,10 +113,18 @@ const REFUSED: &[RefusedCase] = &[
     ),
     (
         &[
-            "processors = 2\nhorizon = 3\ntask = [{name = \"a\", work = 2, period = 3, offset = -1}]\n",
+            "processors = 2\nhorizon = 3\ntask = [{name = \"a\", work = 2, period = 3}, {name = \"a\", work = 1, period = 3}]\n",
         ],
         Status::BadInput,
-        "refused 6 BadOffset 0\n",
+        "refused 6 SameName 1\n",
+    ),
+    (
+        &[
+            "processors = 2\nhorizon = 3\ntask = [{name = \"a\", work = 2, period = 3}, {name = \"b\", work = 2, period = 3, offset = -1}, \
+                {name = \"c\", work = 2, period = 3}]\n",
+        ],
+        Status::BadInput,
+        "refused 6 BadOffset 1\n",
     ),
 ];
 

@@ -1,6 +1,6 @@
 //! Executions that a gate or a job stops.
 
-use super::calls::{Outside, SURE};
+use super::calls::{JobKinds, Outside, SURE};
 use super::cases::{Cases, FaultCase, Table, assert_tables};
 use super::lanes::{Did, Front, Schedule};
 use super::texts::{THREE_TASKS, TWO_REDUCTIONS};
@@ -27,7 +27,7 @@ pub(super) const THREE_STOPS: &[FaultCase] = &[
     ),
     (
         Outside {
-            job: Some((2, 1)),
+            jobs: JobKinds::Fails(2, 1),
             ..SURE
         },
         Status::JobFault,
@@ -74,7 +74,7 @@ macro_rules! job_fault {
     ($rounds:expr, $task:expr, $processor:expr, $before:expr, $line:expr) => {
         (
             Outside {
-                job: Some(($task, 1)),
+                jobs: JobKinds::Fails($task, 1),
                 ..SURE
             },
             Status::JobFault,

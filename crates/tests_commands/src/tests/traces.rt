@@ -43,6 +43,14 @@ const SCHEDULES: &[DoneCase] = &[
         ],
         Did::Nothing,
     ),
+    // As many rounds as there may be rows are one row.
+    (
+        &["processors = 1\nhorizon = 2097152\ntask = [{name = \"a\", work = 1, period = 1}]\n"],
+        &[
+            "run-trace 1\nprocessors 1\nhorizon 2097152\nscale 1\ntasks 1\ntask a 1 1\nrow 0 0 2097152 a\ntotal a 2097152\nrows 1\n",
+        ],
+        Did::Nothing,
+    ),
     // A task that is released late is told of with its periods, asked for or not.
     (&[LATE_TASK], &[LATE_ROWS], Did::Nothing),
 ];
@@ -60,6 +68,11 @@ const WITHOUT: &[RefusedCase] = &[
         "refused 7 Overload total 7 room 6\n",
     ),
     // More rounds than a table may have rows: the limit over the processors, and one round.
+    (
+        &["processors = 1\nhorizon = 2097153\ntask = [{name = \"a\", work = 1, period = 1}]\n"],
+        Status::TooLong,
+        "refused 9 TooLong rows 2097153\n",
+    ),
     (
         &["processors = 32\nhorizon = 65537\ntask = [{name = \"a\", work = 1, period = 1}]\n"],
         Status::TooLong,

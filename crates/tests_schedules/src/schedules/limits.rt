@@ -15,12 +15,13 @@ fn assert_counts(
     rounds: Result<u64, CountFault>,
     lanes: Result<u32, CountFault>,
 ) {
-    assert!(rt; count_rounds(alloc, plan) == rounds);
+    let horizon = plan.set().horizon();
+    assert!(rt; count_rounds(alloc, plan) == rounds, "horizon {horizon}");
     let count = match merged_of(alloc, plan) {
         Ok(merged) => Ok(merged.processors()),
         Err(fault) => Err(fault),
     };
-    assert!(rt; count == lanes);
+    assert!(rt; count == lanes, "horizon {horizon}");
 }
 
 const ALL_THE_TIME: &[NamedTask] = &[("a", 1, 1, 0)];
@@ -37,9 +38,17 @@ type Limit = (
     Result<u32, CountFault>,
 );
 
-/// One task that runs all the time on 32 processors, where as many as 65536 rounds are within the limit of rows; and two tasks that have a
-/// processor each, where as many as 1048576 are, one a unit. In the first each processor shows one thing from tick 0 up to the end.
+/// One task that runs all the time, on one processor, where as many as 2097152 rounds are within the limit of rows, one a unit, and on 32, where
+/// as many as 65536 are; and two tasks that have a processor each, where as many as 1048576 are.
 const LIMITS: &[Limit] = &[
+    (1, ALL_THE_TIME, 2_097_152, Ok(2_097_152), Ok(1)),
+    (
+        1,
+        ALL_THE_TIME,
+        2_097_153,
+        Err(CountFault::TooLong { rows: 2_097_153 }),
+        Err(CountFault::TooLong { rows: 2_097_153 }),
+    ),
     (32, ALL_THE_TIME, 65_536, Ok(65_536), Ok(32)),
     (
         32,

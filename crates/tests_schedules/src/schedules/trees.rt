@@ -1,7 +1,8 @@
-//! The tree of a worked set, node by node.
+//! The tree of a worked set, node by node: as it is compiled, and as it is made.
 use super::{THREE_TASKS, plan_with};
-use run_tree::{Kind, Tree};
+use run_tree::{Kind, Tree, TreeMaker};
 use sched_base::{Leaf, NodeId, TaskId};
+use std::alloc::Global;
 use std::process::Abort;
 
 /// Compares node n with its kind, its rate, its members and its dual.
@@ -35,20 +36,38 @@ fn assert_pack(rt: &impl Abort, tree: &Tree, j: u32) {
     assert_node(rt, tree, 7 + j, Kind::Dual(pack), 1, &[], None);
 }
 
-/// The duals of the three packs are in one pack.
+/// Makes sure of the tree of three tasks: each in a pack of its own, and the three duals in one pack.
 fn assert_tree(rt: &impl Abort, tree: &Tree) {
     assert!(rt; tree.processors() == 2 && tree.scale() == 3);
     assert!(rt; tree.levels() == 2 && tree.nodes() == 10);
     let duals = [NodeId(7), NodeId(8), NodeId(9)];
     assert_node(rt, tree, 6, Kind::Pack(1), 3, &duals, None);
+    for j in 0..3 {
+        assert_pack(rt, tree, j);
+    }
 }
 
-/// Three tasks of rate 2/3 on two processors: each in a pack of its own, and the three duals in one pack.
+/// The tree of three tasks of rate 2/3 on two processors, made leaf by leaf.
+fn made(rt: &impl Abort, alloc: Global) -> Tree {
+    let mut maker = TreeMaker::start(alloc, 2, 3);
+    maker
+        .leaf(Leaf::Task(TaskId(0)), 2, 0)
+        .expect(rt, "there is memory");
+    maker
+        .leaf(Leaf::Task(TaskId(1)), 2, 1)
+        .expect(rt, "there is memory");
+    maker
+        .leaf(Leaf::Task(TaskId(2)), 2, 2)
+        .expect(rt, "there is memory");
+    maker.lift(&[0, 0, 0]).expect(rt, "there is memory");
+    assert!(rt; maker.packs() == 1);
+    assert!(rt; maker.pack_rate(0) == 3);
+    maker.finish()
+}
+
 #[test]
 fn makes_the_tree_of_three_tasks(rt: HostRuntime) {
     let plan = plan_with(&rt, rt.alloc(), 2, 3, THREE_TASKS);
     assert_tree(&rt, plan.tree());
-    for j in 0..3 {
-        assert_pack(&rt, plan.tree(), j);
-    }
+    assert_tree(&rt, &made(&rt, rt.alloc()));
 }

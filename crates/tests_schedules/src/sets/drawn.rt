@@ -1,4 +1,7 @@
 //! Sets drawn from numbers: values from outside.
+use event_core::count_rounds;
+use rate_scale::total;
+use run_compile::compile;
 use sched_base::TaskSet;
 use std::alloc::Global;
 use std::process::Abort;
@@ -93,6 +96,23 @@ fn assert_made(rt: &impl Abort, alloc: Global, words: &[u32; 128], tasks: &[(&st
     assert_tasks(rt, &set, tasks);
 }
 
+/// Four packs of four tasks, each with a processor of its own: the scale, the total of the rates, and the rounds, of four ticks each.
+const COUNTS_OF_ZEROS: (u128, u128, u64) = (4, 16, 6000);
+
+/// Makes sure of the scale, the total and the rounds of the set that these words make.
+fn assert_counts(
+    rt: &impl Abort,
+    alloc: Global,
+    words: &[u32; 128],
+    (scale, sum, rounds): (u128, u128, u64),
+) {
+    let set = make(alloc, words).expect(rt, "there is memory");
+    let plan = compile(alloc, set).expect(rt, "a plan");
+    plan.know_lawful();
+    assert!(rt; (plan.scale(), total(plan.set(), plan.scale())) == (scale, sum));
+    assert!(rt; count_rounds(alloc, &plan) == Ok(rounds));
+}
+
 #[test]
 fn words_and_sets_of_numbers(rt: HostRuntime) {
     for (number, first, last) in WORDS {
@@ -101,6 +121,7 @@ fn words_and_sets_of_numbers(rt: HostRuntime) {
         assert!(rt; &words[126..] == last.as_slice(), "{number}");
     }
     assert_made(&rt, rt.alloc(), &[0; 128], OF_ZEROS);
+    assert_counts(&rt, rt.alloc(), &[0; 128], COUNTS_OF_ZEROS);
     for (number, tasks) in DRAWN {
         assert_made(&rt, rt.alloc(), &words_of(*number), tasks);
     }

@@ -1,6 +1,7 @@
-//! Packings of worked rates, and idle clients in them.
+//! Packings of worked rates, idle clients in them, and duals.
 ghost use Rattle.std.specs.Prelude.{◌≤◌, ◌^◌, ◌*◌, length, sum, All};
 
+use dual_step::duals;
 use idle_fill::fill;
 use sched_base::NoMemory;
 use server_pack::{Packing, first_fit};
@@ -64,8 +65,15 @@ fn compare_filled(rt: &impl Abort, alloc: Global) {
     assert_servers(rt, &no_task, &[(1, 1, &[]), (1, 1, &[])]);
 }
 
+/// Each of three servers leaves one of three ticks.
+fn compare_duals(rt: &impl Abort, alloc: Global) {
+    let rates = duals(alloc, &[2, 2, 2], 3).expect(rt, "there is memory");
+    assert!(rt; rates.as_slice() == [1, 1, 1].as_slice());
+}
+
 #[test]
 fn packs_and_fills(rt: HostRuntime) {
     compare_packed(&rt, rt.alloc());
     compare_filled(&rt, rt.alloc());
+    compare_duals(&rt, rt.alloc());
 }

@@ -35,7 +35,7 @@ fn set_in_words(rt: &impl Abort, alloc: Global, set: &TaskSet) -> String {
 
 fn compare(rt: &impl Abort, alloc: Global, bytes: &[u8], want: &str) {
     let said = answer(rt, alloc, bytes);
-    assert!(rt; said.as_str() == want, "{said}");
+    assert!(rt; said.as_str() == want, "{said}, and not {want}");
 }
 
 const THREE: &str =
@@ -144,41 +144,6 @@ const OTHER_LINES: &[(usize, &str, &str)] = &[
     (4, "work = 1\nwork = 1", "NotToml"),
     (5, "period = 3\nperiod = 3", "NotToml"),
     (6, "offset = 2\noffset = 2", "NotToml"),
-    // Each key with values of other kinds.
-    (
-        0,
-        "processors = 2.0",
-        "WrongKind { place: Top, key: Processors }",
-    ),
-    (
-        0,
-        "processors = true",
-        "WrongKind { place: Top, key: Processors }",
-    ),
-    (1, "horizon = [3]", "WrongKind { place: Top, key: Horizon }"),
-    (
-        1,
-        "horizon = {x = 1}",
-        "WrongKind { place: Top, key: Horizon }",
-    ),
-    (
-        1,
-        "horizon = 1979-05-27",
-        "WrongKind { place: Top, key: Horizon }",
-    ),
-    (2, "[task]", "WrongKind { place: Top, key: Task }"),
-    (3, "name = 1", "WrongKind { place: Task(0), key: Name }"),
-    (4, "work = '1'", "WrongKind { place: Task(0), key: Work }"),
-    (
-        5,
-        "period = nan",
-        "WrongKind { place: Task(0), key: Period }",
-    ),
-    (
-        6,
-        "offset = false",
-        "WrongKind { place: Task(0), key: Offset }",
-    ),
     // Each number at its limits and past them.
     (0, "processors = 1", "1 3 a:1/3+2"),
     (0, "processors = 32", "32 3 a:1/3+2"),
@@ -261,31 +226,128 @@ fn compare_many(rt: &impl Abort, alloc: Global) {
     );
 }
 
-/// Where the text of three tasks is cut, and what it then says.
+/// How many bytes of the text of three tasks are read at least, up to the next number, and what they say.
 const CUTS: &[(usize, &str)] = &[
     (0, "Missing { place: Top, key: Processors }"),
-    (5, "NotToml"),
-    (13, "NotToml"),
+    (1, "NotToml"),
     (14, "Missing { place: Top, key: Horizon }"),
+    (16, "NotToml"),
     (26, "2 3"),
-    (34, "NotToml"),
+    (29, "NotToml"),
     (36, "Missing { place: Task(0), key: Name }"),
-    (46, "NotToml"),
+    (38, "NotToml"),
     (47, "Missing { place: Task(0), key: Work }"),
+    (49, "NotToml"),
     (56, "Missing { place: Task(0), key: Period }"),
+    (58, "NotToml"),
     (67, "2 3 a:2/3+0"),
+    (70, "NotToml"),
     (77, "Missing { place: Task(1), key: Name }"),
+    (79, "NotToml"),
+    (88, "Missing { place: Task(1), key: Work }"),
+    (90, "NotToml"),
+    (97, "Missing { place: Task(1), key: Period }"),
+    (99, "NotToml"),
+    (108, "2 3 a:2/3+0 b:2/3+0"),
+    (111, "NotToml"),
+    (118, "Missing { place: Task(2), key: Name }"),
+    (120, "NotToml"),
+    (129, "Missing { place: Task(2), key: Work }"),
+    (131, "NotToml"),
+    (138, "Missing { place: Task(2), key: Period }"),
+    (140, "NotToml"),
+    (149, "2 3 a:2/3+0 b:2/3+0 c:2/3+0"),
 ];
 
-fn compare_cuts(rt: &impl Abort, alloc: Global) {
-    for (at, want) in CUTS {
-        let at = *at;
-        assert!(rt; at <= THREE.len());
-        compare(rt, alloc, &THREE.as_bytes()[..at], want);
+/// What so many bytes of the text of three tasks say.
+fn said_by(bytes: usize) -> &'static str {
+    let mut said = "";
+    for (from, other) in CUTS {
+        if *from <= bytes {
+            said = *other;
+        }
     }
-    for at in 0..THREE.len() {
-        let said = answer(rt, alloc, &THREE.as_bytes()[..at]);
-        assert!(rt; said.as_str() != "NoMemory", "cut at {at}");
+    said
+}
+
+/// The text of three tasks cut after each byte.
+fn compare_cuts(rt: &impl Abort, alloc: Global) {
+    for end in 0..=THREE.len() {
+        compare(rt, alloc, &THREE.as_bytes()[..end], said_by(end));
+    }
+}
+
+/// A value of each kind.
+const VALUES: [&str; 7] = [
+    "7",
+    "'x'",
+    "1.5",
+    "true",
+    "1979-05-27T07:32:00Z",
+    "[1]",
+    "{x = 1}",
+];
+
+/// A key: what stands before its value and behind it, which of the values is of its kind, and the answer for each other one.
+type Key = (&'static str, &'static str, usize, &'static str);
+
+const KEYS: &[Key] = &[
+    (
+        "processors = ",
+        "\nhorizon = 3",
+        0,
+        "WrongKind { place: Top, key: Processors }",
+    ),
+    (
+        "processors = 2\nhorizon = ",
+        "",
+        0,
+        "WrongKind { place: Top, key: Horizon }",
+    ),
+    (
+        "processors = 2\nhorizon = 3\ntask = ",
+        "",
+        5,
+        "WrongKind { place: Top, key: Task }",
+    ),
+    (
+        "processors = 2\nhorizon = 3\ntask = [{work = 1, period = 3, name = ",
+        "}]",
+        1,
+        "WrongKind { place: Task(0), key: Name }",
+    ),
+    (
+        "processors = 2\nhorizon = 3\ntask = [{name = 'a', period = 3, work = ",
+        "}]",
+        0,
+        "WrongKind { place: Task(0), key: Work }",
+    ),
+    (
+        "processors = 2\nhorizon = 3\ntask = [{name = 'a', work = 1, period = ",
+        "}]",
+        0,
+        "WrongKind { place: Task(0), key: Period }",
+    ),
+    (
+        "processors = 2\nhorizon = 3\ntask = [{name = 'a', work = 1, period = 3, offset = ",
+        "}]",
+        0,
+        "WrongKind { place: Task(0), key: Offset }",
+    ),
+];
+
+/// Makes sure of the answer where a key has this value.
+fn compare_value(rt: &impl Abort, alloc: Global, (before, behind, _, want): Key, value: &str) {
+    let text = format!(in alloc; "{before}{value}{behind}").expect(rt, "there is memory");
+    compare(rt, alloc, text.as_bytes(), want);
+}
+
+/// A key with a value of each kind but its own.
+fn compare_kinds(rt: &impl Abort, alloc: Global, key: Key) {
+    for (kind, value) in VALUES.iter().enumerate() {
+        if kind != key.2 {
+            compare_value(rt, alloc, key, value);
+        }
     }
 }
 
@@ -336,6 +398,9 @@ fn texts_and_their_answers(rt: HostRuntime) {
     }
     compare_many(&rt, alloc);
     compare_cuts(&rt, alloc);
+    for key in KEYS {
+        compare_kinds(&rt, alloc, *key);
+    }
     for (text, want) in PIECES {
         let words = pieces(&rt, alloc, text.as_bytes());
         assert!(rt; words.as_str() == *want, "{text}");

@@ -212,6 +212,26 @@ fn trace_of_late_task(rt: &impl Abort, alloc: Global) -> ReadTrace {
     ReadTrace::of_table(alloc, &set, scale, &table).expect(rt, "there is memory")
 }
 
+/// The trace of a table of two tasks of rate 1/2 on one processor, of which the first is late.
+fn trace_of_two(rt: &impl Abort, alloc: Global) -> ReadTrace {
+    let mut table = RowTable::new(alloc, 1, 10).expect(rt, "there is memory");
+    table.push_round(&[row(0, 0, 1, Leaf::Wait(TaskId(0)))]);
+    table.push_round(&[row(0, 1, 2, B)]);
+    table.push_round(&[row(0, 2, 3, B)]);
+    table.push_round(&[row(0, 3, 4, A)]);
+    table.push_round(&[row(0, 4, 5, A)]);
+    table.push_round(&[row(0, 5, 6, B)]);
+    table.push_round(&[row(0, 6, 7, B)]);
+    table.push_round(&[row(0, 7, 8, A)]);
+    table.push_round(&[row(0, 8, 9, A)]);
+    table.push_round(&[row(0, 9, 10, B)]);
+    let mut set = TaskSet::start(alloc, 1, 5);
+    set.add_late(b"a", 1, 2, 1).expect(rt, "there is memory");
+    set.add(b"b", 1, 2).expect(rt, "there is memory");
+    let scale = scale_of(&set).expect(rt, "the scale is 2");
+    ReadTrace::of_table(alloc, &set, scale, &table).expect(rt, "there is memory")
+}
+
 #[test]
 fn a_table_has_the_trace_of_its_text(rt: HostRuntime) {
     let rows = [
@@ -225,4 +245,13 @@ fn a_table_has_the_trace_of_its_text(rt: HostRuntime) {
     // Rows of no task are one idle row.
     let late = [row(0, 0, 3, Leaf::Idle(0)), row(0, 3, 4, A)];
     compare_rows(&rt, &trace_of_late_task(&rt, rt.alloc()), &late);
+    let two = [
+        row(0, 0, 1, Leaf::Idle(0)),
+        row(0, 1, 3, B),
+        row(0, 3, 5, A),
+        row(0, 5, 7, B),
+        row(0, 7, 9, A),
+        row(0, 9, 10, B),
+    ];
+    compare_rows(&rt, &trace_of_two(&rt, rt.alloc()), &two);
 }

@@ -58,7 +58,17 @@ type Meeting = (
 const MEETINGS: &[Meeting] = &[
     // Each of two gates waits for the first call of the other. Workers that serve one lane after the other can't end this.
     (&["exec"], THREE_TASKS, [1, 1], Status::Done, THREE_ROWS, ""),
-    // Gate 0 waits in its first call for the third call of gate 1, which comes only where lane 1 may run two rounds ahead.
+    // Gate 1 waits in its first call for the third call of gate 0, which comes only where lane 0 may run two rounds ahead.
+    (&["exec"], THREE_TASKS, [0, 3], Status::Done, THREE_ROWS, ""),
+    (
+        &["exec", "--window", "1"],
+        THREE_TASKS,
+        [0, 3],
+        Status::GateFault,
+        "",
+        "refused 10 GateFault processor 1 row 0 3 c\n",
+    ),
+    // Gate 0 waits in its first call for the third call of gate 1.
     (
         &["exec"],
         TWO_REDUCTIONS,

@@ -1,9 +1,9 @@
 use Rattle.std.proofs.Common.{ℕ, refl, ap, ◌∙◌, arith}
 use Rattle.run_tool.proofs.CrewLemmas.{job_in_place}
 use Rattle.run_tool.proofs.ReadyLemmas.{no_jobs_made, one_more_made, are_ready}
-use Rattle.tests_commands.proofs.tests.calls.call_with.OwnLists.{own-1, at-1-1, at-1-2}
+use Rattle.tests_commands.proofs.tests.calls.call_with.OwnLists.{own-1, at-1-1, at-1-2, at-1-3}
 use denote.Param.Object.{read_made}
-use Rattle.tests_commands.proofs.tests.calls.call_with.Goals.{in-Some, in-None}
+use Rattle.tests_commands.proofs.tests.calls.call_with.Goals.{in-Fail, in-Program, in-Count}
 use Rattle.tests_commands.proofs.tests.calls.call_with.Goals as goal
 
 pub loop-id-init : goal.loop-id-init
@@ -12,21 +12,28 @@ loop-id-init g c = no_jobs_made _ _ _ _ _ _ (rw c.expect-jobs.ensures at c.with_
 
 pub loop-id-preserved : goal.loop-id-preserved
 loop-id-preserved g c =
-    elim c.match-failing.branch [
-      | in-Some w ↦
-          let boxed = rw w.expect.ensures at w.new-in-Some.ensures.ok in
-          let id = rw w.expect-job.ensures at w.new.ensures.id in
-          let used = rw w.expect-job.ensures at w.new.ensures.used in
+    elim c.match-kind_of.branch [
+      | in-Fail w ↦
+          let boxed = rw w.expect.ensures at w.new.ensures.ok in
           rw w.jobs-is (one_more_made _ _ _ _ c.loop-id.id _ _ _ _ _ c.loop-id.invariant w.add.ensures.room w.add.ensures.places
-          (read_made own-1 (own-1.entry at-1-1) at-1-1 refl ℕ (λ e x. e.1.id x) _ _ _ w.into_dyn_box.ensures.1 ∙ ap (λ j. j.id) boxed ∙ id)
-          (read_made own-1 (own-1.entry at-1-1) at-1-1 refl ℕ (λ e x. e.1.used x) _ _ _ w.into_dyn_box.ensures.1 ∙ ap (λ j. j.used) boxed ∙ used))
-      | in-None w ↦
-          let boxed = rw w.expect-in-None.ensures at w.new-in-None.ensures.ok in
-          rw w.jobs-is (one_more_made _ _ _ _ c.loop-id.id _ _ _ _ _ c.loop-id.invariant w.add-in-None.ensures.room w.add-in-None.ensures.places
-          (read_made own-1 (own-1.entry at-1-2) at-1-2 refl ℕ (λ e x. e.1.id x) _ _ _ w.into_dyn_box-in-None.ensures.1 ∙ ap (λ j. j.id) (boxed
+          (read_made own-1 (own-1.entry at-1-1) at-1-1 refl ℕ (λ e x. e.1.id x) _ _ _ w.into_dyn_box.ensures.1 ∙ ap (λ j. j.id) boxed
+          ∙ w.failing-job.ensures.id)
+          (read_made own-1 (own-1.entry at-1-1) at-1-1 refl ℕ (λ e x. e.1.used x) _ _ _ w.into_dyn_box.ensures.1 ∙ ap (λ j. j.used) boxed
+          ∙ w.failing-job.ensures.used))
+      | in-Program w ↦
+          let boxed = rw w.expect-in-Program.ensures at w.new-in-Program.ensures.ok in
+          rw w.jobs-is (one_more_made _ _ _ _ c.loop-id.id _ _ _ _ _ c.loop-id.invariant w.add-in-Program.ensures.room w.add-in-Program.ensures.places
+          (read_made own-1 (own-1.entry at-1-2) at-1-2 refl ℕ (λ e x. e.1.id x) _ _ _ w.into_dyn_box-in-Program.ensures.1 ∙ ap (λ j. j.id) (boxed
           ∙ w.new-job.ensures))
-          (read_made own-1 (own-1.entry at-1-2) at-1-2 refl ℕ (λ e x. e.1.used x) _ _ _ w.into_dyn_box-in-None.ensures.1 ∙ ap (λ j. j.used) (boxed
+          (read_made own-1 (own-1.entry at-1-2) at-1-2 refl ℕ (λ e x. e.1.used x) _ _ _ w.into_dyn_box-in-Program.ensures.1 ∙ ap (λ j. j.used) (boxed
           ∙ w.new-job.ensures)))
+      | in-Count w ↦
+          let boxed = rw w.expect-in-Count.ensures at w.new-in-Count.ensures.ok in
+          rw w.jobs-is (one_more_made _ _ _ _ c.loop-id.id _ _ _ _ _ c.loop-id.invariant w.add-in-Count.ensures.room w.add-in-Count.ensures.places
+          (read_made own-1 (own-1.entry at-1-3) at-1-3 refl ℕ (λ e x. e.1.id x) _ _ _ w.into_dyn_box-in-Count.ensures.1 ∙ ap (λ j. j.id) (boxed
+          ∙ w.new-job-in-Count.ensures))
+          (read_made own-1 (own-1.entry at-1-3) at-1-3 refl ℕ (λ e x. e.1.used x) _ _ _ w.into_dyn_box-in-Count.ensures.1 ∙ ap (λ j. j.used) (boxed
+          ∙ w.new-job-in-Count.ensures)))
     ]
 
 pub perform-told-requires-clause-ready : goal.perform-told-requires-clause-ready
