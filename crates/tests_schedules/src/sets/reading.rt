@@ -35,7 +35,11 @@ fn set_in_words(rt: &impl Abort, alloc: Global, set: &TaskSet) -> String {
 
 fn compare(rt: &impl Abort, alloc: Global, bytes: &[u8], want: &str) {
     let said = answer(rt, alloc, bytes);
-    assert!(rt; said.as_str() == want, "{said}, and not {want}");
+    let length = bytes.len();
+    assert!(rt;
+        said.as_str() == want,
+        "a text of {length} bytes: {said}, and not {want}"
+    );
 }
 
 const THREE: &str =
