@@ -1,5 +1,5 @@
 //! Sets into plans.
-ghost use Rattle.std.specs.Prelude.{ℕ, ◌≡◌, ◌≤◌, ◌+◌, ◌-◌, ◌^◌, ◌⊎◌, IfOk, IfErr};
+ghost use Rattle.std.specs.Prelude.{ℕ, ◌≡◌, ◌<◌, ◌≤◌, ◌+◌, ◌-◌, ◌^◌, ◌⊎◌, IfOk, IfErr};
 ghost use Rattle.sched_base.specs.Scale.{Fits};
 ghost use Rattle.run_tree.specs.TreeOfSet.{IsTreeOf};
 ghost use Rattle.run_tree.specs.Compiled.{tree_of};
@@ -54,6 +54,8 @@ pub fn levels(plan: &Plan) -> u32
     ensures value { result ≡ plan.now.tree.levels }
     // With p packs of level 0 that aren't roots there are at most log2 (p - 1) levels above it.
     ensures height { (k : ℕ) → k + 1 ≡ result → (k ≡ 0) ⊎ (2 ^ k ≤ duals_of plan.now.tree 0 - 1) }
+    // A level with a pack that isn't a root has at least three of them.
+    ensures three { (l : ℕ) → l < result → 0 < duals_of plan.now.tree l → 3 ≤ duals_of plan.now.tree l }
 {
     plan.tree().levels()
 }
