@@ -11,6 +11,7 @@ use Rattle.pure_commands.specs.Ends.{IsAnswer}
 use Rattle.exit_status.specs.Status.{code_of}
 use Rattle.byte_calls.specs.Held.{AnswerHeld}
 use Rattle.byte_calls.specs.Answers.{IsAnswered}
+use Rattle.furnacelime_c.specs.Numbers.{wrong_call}
 use Rattle.furnacelime_c.specs.declared.answers.Question.{Question}
 
 -- the units that are asked for; a number of 0 is as many as are easily looked at
@@ -42,9 +43,9 @@ AnswerGives q bytes kept text_length code =
     (reading : Reading) × (answer : AnswerHeld) × (reading_of q ≡ Some reading) × (kept ≡ Some answer) × IsAnswerOf reading bytes answer
     × (text_length ≡ length answer.text) × (code ≡ code_of answer.status)
 
--- no command has the number, which is 64, or memory was refused, which is 5
+-- no command has the number, or memory was refused
 abbrev pub IsNotCalled : Question → ℕ → ℕ → Type 0
-IsNotCalled q text_length code = (text_length ≡ 0) × (((code ≡ 64) × (reading_of q ≡ None)) ⊎ (code ≡ 5))
+IsNotCalled q text_length code = (text_length ≡ 0) × (((code ≡ wrong_call) × (reading_of q ≡ None)) ⊎ (code ≡ code_of NoMemory))
 
 -- the text of the answer stands at the front, and the rest is as it was
 abbrev pub IsCopied : Option AnswerHeld → List ℕ → List ℕ → Type 0
@@ -53,4 +54,4 @@ IsCopied kept old new = (answer : AnswerHeld) × (kept ≡ Some answer) × (new 
 -- there was too little room, and nothing was copied
 abbrev pub IsShort : Option AnswerHeld → List ℕ → List ℕ → ℕ → Type 0
 IsShort kept old new code =
-    (answer : AnswerHeld) × (kept ≡ Some answer) × (length old < length answer.text) × (new ≡ old) × (code ≡ 64)
+    (answer : AnswerHeld) × (kept ≡ Some answer) × (length old < length answer.text) × (new ≡ old) × (code ≡ wrong_call)

@@ -1,5 +1,5 @@
 //! The book of a task set, for an executive in C that brings its own threads, gates and jobs.
-ghost use Rattle.std.specs.Prelude.{◌≡◌, ◌≢◌, ◌≤◌, ◌⊎◌, None, length, IfOk, IfErr};
+ghost use Rattle.std.specs.Prelude.{◌≡◌, ◌≢◌, ◌≤◌, None, length, IfOk, IfErr};
 ghost use Rattle.sched_base.specs.Limits.{window_limit};
 ghost use Rattle.round_steps.specs.Refusals.{IsRefusedFor};
 ghost use Rattle.book_steps.specs.Books.{IsBookOf};
@@ -7,6 +7,7 @@ ghost use Rattle.book_steps.specs.Turns.{Posts, Halts, Waits};
 ghost use Rattle.furnacelime_c.specs.Books.{TellsBook, IsBookOpened, IsBookNotOpened, Goes, IsRowTold, IsAllPosted, IsHalted, CantTake};
 ghost use Rattle.furnacelime_c.specs.Books.{CantPost, CantPostAndTake, PostsAndTakes, PostsAndWaits, PostsAndEnds, PostsAndHalts};
 ghost use Rattle.furnacelime_c.specs.Books.{TellsEnd, TellsFault, TellsWant, IsShortOf, IsNoProcessor};
+ghost use Rattle.furnacelime_c.specs.Numbers.{wrong_call, over, wait, halted, IsTakesEnd};
 
 use crate::numbers::{HALTED, OVER, WAIT, WRONG_CALL};
 use book_steps::{StepBook, Turn};
@@ -98,13 +99,13 @@ pub extern "C" fn furnacelime_take(
     requires open { book.book ≢ None }
     requires empty { kept.old.book ≡ None }
     ensures ready { result ≡ 0 → Goes book.book kept.new.book (λ old new. IsRowTold old new processor row.new) }
-    ensures wait { result ≡ 66 → Goes book.book kept.new.book (λ old new. Waits old new processor row.new.waits_for) }
-    ensures over { result ≡ 65 → Goes book.book kept.new.book (λ old new. IsAllPosted old new processor) }
-    ensures halted { result ≡ 67 → Goes book.book kept.new.book IsHalted }
-    ensures wrong { result ≡ 64 → Goes book.book kept.new.book (λ old new. CantTake old new processor) }
-    ensures waiting { result ≡ 66 → row.new ≡ record row.old { waits_for = row.new.waits_for } }
-    ensures untold { result ≢ 0 → result ≢ 66 → row.new ≡ row.old }
-    ensures status { (result ≡ 0) ⊎ ((result ≡ 64) ⊎ ((result ≡ 65) ⊎ ((result ≡ 66) ⊎ (result ≡ 67)))) }
+    ensures wait { result ≡ wait → Goes book.book kept.new.book (λ old new. Waits old new processor row.new.waits_for) }
+    ensures over { result ≡ over → Goes book.book kept.new.book (λ old new. IsAllPosted old new processor) }
+    ensures halted { result ≡ halted → Goes book.book kept.new.book IsHalted }
+    ensures wrong { result ≡ wrong_call → Goes book.book kept.new.book (λ old new. CantTake old new processor) }
+    ensures waiting { result ≡ wait → row.new ≡ record row.old { waits_for = row.new.waits_for } }
+    ensures untold { result ≢ 0 → result ≢ wait → row.new ≡ row.old }
+    ensures status { IsTakesEnd result }
 {
     let mut steps = book.into_box(alloc);
     let status = take_turn(&mut steps, processor, row);
@@ -124,7 +125,7 @@ pub extern "C" fn furnacelime_post(
     requires open { book.book ≢ None }
     requires empty { kept.old.book ≡ None }
     ensures posted { result ≡ 0 → Goes book.book kept.new.book (λ old new. Posts old new processor) }
-    ensures wrong { result ≢ 0 → (result ≡ 64) × Goes book.book kept.new.book (λ old new. CantPost old new processor) }
+    ensures wrong { result ≢ 0 → (result ≡ wrong_call) × Goes book.book kept.new.book (λ old new. CantPost old new processor) }
 {
     let mut steps = book.into_box(alloc);
     let status = post_turn(&mut steps, processor);
@@ -145,13 +146,13 @@ pub extern "C" fn furnacelime_post_and_take(
     requires open { book.book ≢ None }
     requires empty { kept.old.book ≡ None }
     ensures ready { result ≡ 0 → Goes book.book kept.new.book (λ old new. PostsAndTakes old new processor row.new) }
-    ensures wait { result ≡ 66 → Goes book.book kept.new.book (λ old new. PostsAndWaits old new processor row.new.waits_for) }
-    ensures over { result ≡ 65 → Goes book.book kept.new.book (λ old new. PostsAndEnds old new processor) }
-    ensures halted { result ≡ 67 → Goes book.book kept.new.book (λ old new. PostsAndHalts old new processor) }
-    ensures wrong { result ≡ 64 → Goes book.book kept.new.book (λ old new. CantPostAndTake old new processor) }
-    ensures waiting { result ≡ 66 → row.new ≡ record row.old { waits_for = row.new.waits_for } }
-    ensures untold { result ≢ 0 → result ≢ 66 → row.new ≡ row.old }
-    ensures status { (result ≡ 0) ⊎ ((result ≡ 64) ⊎ ((result ≡ 65) ⊎ ((result ≡ 66) ⊎ (result ≡ 67)))) }
+    ensures wait { result ≡ wait → Goes book.book kept.new.book (λ old new. PostsAndWaits old new processor row.new.waits_for) }
+    ensures over { result ≡ over → Goes book.book kept.new.book (λ old new. PostsAndEnds old new processor) }
+    ensures halted { result ≡ halted → Goes book.book kept.new.book (λ old new. PostsAndHalts old new processor) }
+    ensures wrong { result ≡ wrong_call → Goes book.book kept.new.book (λ old new. CantPostAndTake old new processor) }
+    ensures waiting { result ≡ wait → row.new ≡ record row.old { waits_for = row.new.waits_for } }
+    ensures untold { result ≢ 0 → result ≢ wait → row.new ≡ row.old }
+    ensures status { IsTakesEnd result }
 {
     let mut steps = book.into_box(alloc);
     let status = post_and_take(&mut steps, processor, row);
@@ -172,7 +173,7 @@ pub extern "C" fn furnacelime_halt(
     requires open { book.book ≢ None }
     requires empty { kept.old.book ≡ None }
     ensures halted { result ≡ 0 → Goes book.book kept.new.book (λ old new. Halts old new processor why) }
-    ensures wrong { result ≢ 0 → (result ≡ 64) × Goes book.book kept.new.book (λ old new. CantPost old new processor) }
+    ensures wrong { result ≢ 0 → (result ≡ wrong_call) × Goes book.book kept.new.book (λ old new. CantPost old new processor) }
 {
     let mut steps = book.into_box(alloc);
     let status = halt_turn(&mut steps, processor, why);
@@ -195,7 +196,7 @@ pub extern "C" fn furnacelime_exec_tell(
     requires open { book.book ≢ None }
     requires empty { kept.old.book ≡ None }
     ensures told { result ≡ 0 → Goes book.book kept.new.book (λ old new. TellsEnd old new posted.old posted.new totals.old totals.new end.new) }
-    ensures short { result ≢ 0 → (result ≡ 64) × Goes book.book kept.new.book (λ old new. IsShortOf old new (length posted.old) (length totals.old)) }
+    ensures short { result ≢ 0 → (result ≡ wrong_call) × Goes book.book kept.new.book (λ old new. IsShortOf old new (length posted.old) (length totals.old)) }
     ensures untold { result ≢ 0 → (posted.new ≡ posted.old) × ((totals.new ≡ totals.old) × (end.new ≡ end.old)) }
 {
     let steps = book.into_box(alloc);
@@ -217,7 +218,7 @@ pub extern "C" fn furnacelime_exec_want(
     requires open { book.book ≢ None }
     requires empty { kept.old.book ≡ None }
     ensures told { result ≡ 0 → Goes book.book kept.new.book (λ old new. TellsWant old new processor want.new) }
-    ensures wrong { result ≢ 0 → (result ≡ 64) × Goes book.book kept.new.book (λ old new. IsNoProcessor old new processor) }
+    ensures wrong { result ≢ 0 → (result ≡ wrong_call) × Goes book.book kept.new.book (λ old new. IsNoProcessor old new processor) }
     ensures untold { result ≢ 0 → want.new ≡ want.old }
 {
     let steps = book.into_box(alloc);
@@ -265,13 +266,13 @@ fn about_of(book: &StepBook) -> BookAbout
 // Takes the next row of a processor.
 fn take_turn(book: &mut StepBook, processor: u32, row: &mut BookRow) -> u8
     ensures ready { result ≡ 0 → IsRowTold book.old book.new processor row.new }
-    ensures wait { result ≡ 66 → Waits book.old book.new processor row.new.waits_for }
-    ensures over { result ≡ 65 → IsAllPosted book.old book.new processor }
-    ensures halted { result ≡ 67 → IsHalted book.old book.new }
-    ensures wrong { result ≡ 64 → CantTake book.old book.new processor }
-    ensures waiting { result ≡ 66 → row.new ≡ record row.old { waits_for = row.new.waits_for } }
-    ensures untold { result ≢ 0 → result ≢ 66 → row.new ≡ row.old }
-    ensures status { (result ≡ 0) ⊎ ((result ≡ 64) ⊎ ((result ≡ 65) ⊎ ((result ≡ 66) ⊎ (result ≡ 67)))) }
+    ensures wait { result ≡ wait → Waits book.old book.new processor row.new.waits_for }
+    ensures over { result ≡ over → IsAllPosted book.old book.new processor }
+    ensures halted { result ≡ halted → IsHalted book.old book.new }
+    ensures wrong { result ≡ wrong_call → CantTake book.old book.new processor }
+    ensures waiting { result ≡ wait → row.new ≡ record row.old { waits_for = row.new.waits_for } }
+    ensures untold { result ≢ 0 → result ≢ wait → row.new ≡ row.old }
+    ensures status { IsTakesEnd result }
 {
     if processor >= book.processors() {
         return WRONG_CALL;
@@ -299,7 +300,7 @@ fn take_turn(book: &mut StepBook, processor: u32, row: &mut BookRow) -> u8
 // Posts the row that is out on a processor.
 fn post_turn(book: &mut StepBook, processor: u32) -> u8
     ensures posted { result ≡ 0 → Posts book.old book.new processor }
-    ensures wrong { result ≢ 0 → (result ≡ 64) × CantPost book.old book.new processor }
+    ensures wrong { result ≢ 0 → (result ≡ wrong_call) × CantPost book.old book.new processor }
 {
     if processor >= book.processors() || !book.is_out(processor) {
         return WRONG_CALL;
@@ -311,13 +312,13 @@ fn post_turn(book: &mut StepBook, processor: u32) -> u8
 // Posts the row that is out on a processor, and takes its next one.
 fn post_and_take(book: &mut StepBook, processor: u32, row: &mut BookRow) -> u8
     ensures ready { result ≡ 0 → PostsAndTakes book.old book.new processor row.new }
-    ensures wait { result ≡ 66 → PostsAndWaits book.old book.new processor row.new.waits_for }
-    ensures over { result ≡ 65 → PostsAndEnds book.old book.new processor }
-    ensures halted { result ≡ 67 → PostsAndHalts book.old book.new processor }
-    ensures wrong { result ≡ 64 → CantPostAndTake book.old book.new processor }
-    ensures waiting { result ≡ 66 → row.new ≡ record row.old { waits_for = row.new.waits_for } }
-    ensures untold { result ≢ 0 → result ≢ 66 → row.new ≡ row.old }
-    ensures status { (result ≡ 0) ⊎ ((result ≡ 64) ⊎ ((result ≡ 65) ⊎ ((result ≡ 66) ⊎ (result ≡ 67)))) }
+    ensures wait { result ≡ wait → PostsAndWaits book.old book.new processor row.new.waits_for }
+    ensures over { result ≡ over → PostsAndEnds book.old book.new processor }
+    ensures halted { result ≡ halted → PostsAndHalts book.old book.new processor }
+    ensures wrong { result ≡ wrong_call → CantPostAndTake book.old book.new processor }
+    ensures waiting { result ≡ wait → row.new ≡ record row.old { waits_for = row.new.waits_for } }
+    ensures untold { result ≢ 0 → result ≢ wait → row.new ≡ row.old }
+    ensures status { IsTakesEnd result }
 {
     if processor >= book.processors() || !book.is_out(processor) {
         return WRONG_CALL;
@@ -346,7 +347,7 @@ fn post_and_take(book: &mut StepBook, processor: u32, row: &mut BookRow) -> u8
 // Puts the row that is out on a processor back unposted.
 fn halt_turn(book: &mut StepBook, processor: u32, why: u32) -> u8
     ensures halted { result ≡ 0 → Halts book.old book.new processor why }
-    ensures wrong { result ≢ 0 → (result ≡ 64) × CantPost book.old book.new processor }
+    ensures wrong { result ≢ 0 → (result ≡ wrong_call) × CantPost book.old book.new processor }
 {
     if processor >= book.processors() || !book.is_out(processor) {
         return WRONG_CALL;
@@ -358,7 +359,7 @@ fn halt_turn(book: &mut StepBook, processor: u32, why: u32) -> u8
 // Tells how far a book is.
 fn tell_end(book: &StepBook, posted: &mut [u64], totals: &mut [Halves], end: &mut BookEnd) -> u8
     ensures told { result ≡ 0 → TellsEnd book.now book.now posted.old posted.new totals.old totals.new end.new }
-    ensures short { result ≢ 0 → (result ≡ 64) × IsShortOf book.now book.now (length posted.old) (length totals.old) }
+    ensures short { result ≢ 0 → (result ≡ wrong_call) × IsShortOf book.now book.now (length posted.old) (length totals.old) }
     ensures untold { result ≢ 0 → (posted.new ≡ posted.old) × ((totals.new ≡ totals.old) × (end.new ≡ end.old)) }
 {
     if posted.len() < book.processors() as usize || totals.len() < book.tasks() as usize {
@@ -373,7 +374,7 @@ fn tell_end(book: &StepBook, posted: &mut [u64], totals: &mut [Halves], end: &mu
 // Tells what the next row of a processor wants.
 fn tell_want(book: &StepBook, processor: u32, want: &mut BookWant) -> u8
     ensures told { result ≡ 0 → TellsWant book.now book.now processor want.new }
-    ensures wrong { result ≢ 0 → (result ≡ 64) × IsNoProcessor book.now book.now processor }
+    ensures wrong { result ≢ 0 → (result ≡ wrong_call) × IsNoProcessor book.now book.now processor }
     ensures untold { result ≢ 0 → want.new ≡ want.old }
 {
     if processor >= book.processors() {

@@ -1,9 +1,10 @@
 //! The schedule of a task set round by round.
-ghost use Rattle.std.specs.Prelude.{◌≡◌, ◌≢◌, ◌<◌, ◌≤◌, ◌⊎◌, ℕ, length, slice_index, Some, None, IfOk, IfErr};
+ghost use Rattle.std.specs.Prelude.{◌≡◌, ◌≢◌, ◌<◌, ◌≤◌, ℕ, length, slice_index, Some, None, IfOk, IfErr};
 ghost use Rattle.run_tree.specs.Plans.{stop_of};
 ghost use Rattle.round_steps.specs.Refusals.{IsRefusedFor};
 ghost use Rattle.round_steps.specs.Steps.{StepsHeld};
 ghost use Rattle.furnacelime_c.specs.Rounds.{IsAboutPlan, Begins, IsOpened, IsNotOpened, IsRoundTold, IsNext, IsOver, IsShort};
+ghost use Rattle.furnacelime_c.specs.Numbers.{wrong_call, over, IsRoundsEnd};
 
 use crate::numbers::{OVER, WRONG_CALL};
 use c_handles::StepsHandle;
@@ -65,10 +66,10 @@ pub extern "C" fn furnacelime_next(
     ensures next { result ≡ 0 → IsNext plan.steps kept.new.steps round.new tasks.new }
     ensures rest { result ≡ 0 → (s : StepsHeld) × (plan.steps ≡ Some s)
         × ((q : ℕ) → s.plan.tree.processors ≤ q → slice_index tasks.new q ≡ slice_index tasks.old q) }
-    ensures over { result ≡ 65 → IsOver plan.steps kept.new.steps }
-    ensures short { result ≡ 64 → IsShort plan.steps kept.new.steps (length tasks.old) }
+    ensures over { result ≡ over → IsOver plan.steps kept.new.steps }
+    ensures short { result ≡ wrong_call → IsShort plan.steps kept.new.steps (length tasks.old) }
     ensures untold { result ≢ 0 → (round.new ≡ round.old) × (tasks.new ≡ tasks.old) }
-    ensures status { (result ≡ 0) ⊎ ((result ≡ 64) ⊎ (result ≡ 65)) }
+    ensures status { IsRoundsEnd result }
 {
     let mut steps = plan.into_box(alloc);
     let status = tell_next(&mut steps, tasks, round);
@@ -111,10 +112,10 @@ fn about_of(steps: &Steps) -> About
 fn tell_next(steps: &mut Steps, tasks: &mut [u32], round: &mut Round) -> u8
     ensures next { result ≡ 0 → IsRoundTold steps.old steps.new round.new tasks.new }
     ensures rest { result ≡ 0 → (q : ℕ) → steps.old.plan.tree.processors ≤ q → slice_index tasks.new q ≡ slice_index tasks.old q }
-    ensures over { result ≡ 65 → (steps.new ≡ steps.old) × (stop_of steps.old.plan ≤ steps.old.core.tick) }
-    ensures short { result ≡ 64 → (steps.new ≡ steps.old) × (length tasks.old < steps.old.plan.tree.processors) }
+    ensures over { result ≡ over → (steps.new ≡ steps.old) × (stop_of steps.old.plan ≤ steps.old.core.tick) }
+    ensures short { result ≡ wrong_call → (steps.new ≡ steps.old) × (length tasks.old < steps.old.plan.tree.processors) }
     ensures untold { result ≢ 0 → (round.new ≡ round.old) × (tasks.new ≡ tasks.old) }
-    ensures status { (result ≡ 0) ⊎ ((result ≡ 64) ⊎ (result ≡ 65)) }
+    ensures status { IsRoundsEnd result }
 {
     if tasks.len() < steps.processors() as usize {
         return WRONG_CALL;
