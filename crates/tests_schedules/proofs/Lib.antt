@@ -1,2 +1,3 @@
 pub mod LongTableLemmas
 pub mod MadeTreeLemmas
+pub mod LiftedLemmas

@@ -65,6 +65,30 @@ fn made(rt: &impl Abort, alloc: Global) -> Tree {
     maker.finish()
 }
 
+/// Lifts the packs of three tasks of rates 2, 1 and 1 in the order of their last to their first, the first into a pack of its own.
+fn lift_backwards(rt: &impl Abort, alloc: Global) {
+    let mut maker = TreeMaker::start(alloc, 2, 3);
+    maker
+        .leaf(Leaf::Task(TaskId(0)), 2, 0)
+        .expect(rt, "there is memory");
+    maker
+        .leaf(Leaf::Task(TaskId(1)), 1, 1)
+        .expect(rt, "there is memory");
+    maker
+        .leaf(Leaf::Task(TaskId(2)), 1, 2)
+        .expect(rt, "there is memory");
+    maker
+        .lift_order(&[2, 1, 0], &[0, 1, 1])
+        .expect(rt, "there is memory");
+    assert!(rt; maker.packs() == 2);
+    assert!(rt; (maker.pack_rate(0), maker.pack_rate(1)) == (2, 3));
+}
+
+#[test]
+fn lifts_packs_in_any_order(rt: HostRuntime) {
+    lift_backwards(&rt, rt.alloc());
+}
+
 #[test]
 fn makes_the_tree_of_three_tasks(rt: HostRuntime) {
     let plan = plan_with(&rt, rt.alloc(), 2, 3, THREE_TASKS);

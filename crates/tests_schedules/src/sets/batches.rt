@@ -1,5 +1,5 @@
 //! Texts of several sets, and their answers: values from outside.
-use batch_compile::answers_of;
+use batch_compile::{answer_of, answers_of};
 use std::alloc::Global;
 use std::process::Abort;
 use std::thread::Threads;
@@ -57,6 +57,16 @@ const ROWS: &[(&str, &str)] = &[
     ),
 ];
 
+/// Each set by itself.
+fn compare_alone(rt: &impl Abort, alloc: Global) {
+    for (set, want) in ROWS {
+        assert!(rt; set.len() <= 1_048_576);
+        let answer = answer_of(alloc, set.as_bytes()).expect(rt, "there is memory");
+        let said = format!(in alloc; "{answer:?}").expect(rt, "there is memory");
+        assert!(rt; said.as_str() == *want, "{said}, and not {want}");
+    }
+}
+
 /// Fitting sets and refused ones in one text.
 fn compare_rows(rt: &(impl Abort + Threads + Sync), alloc: Global) {
     let mut text = String::new(alloc);
@@ -101,6 +111,7 @@ fn compare_many(rt: &(impl Abort + Threads + Sync), alloc: Global) {
 
 #[test]
 fn answers_of_many_sets(rt: HostRuntime) {
+    compare_alone(&rt, rt.alloc());
     compare_rows(&rt, rt.alloc());
     compare_many(&rt, rt.alloc());
 }

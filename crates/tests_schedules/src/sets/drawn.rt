@@ -1,11 +1,14 @@
 //! Sets drawn from numbers: values from outside.
 use event_core::count_rounds;
-use rate_scale::total;
+use rate_scale::{scale_of, total};
+use round_table::{table_law, table_of};
 use run_compile::compile;
 use sched_base::TaskSet;
+use stat_report::{migrations, preemptions};
 use std::alloc::Global;
 use std::process::Abort;
 use task_gen::{make, words_of};
+use trace_check::{ReadTrace, Verdict, check_trace};
 
 /// That the set has exactly these tasks, each told by its name, work and period, for 4 processors over 6000 units.
 fn assert_tasks(rt: &impl Abort, set: &TaskSet, tasks: &[(&str, u64, u64)]) {
@@ -113,6 +116,30 @@ fn assert_counts(
     assert!(rt; count_rounds(alloc, &plan) == Ok(rounds));
 }
 
+/// The trace of the table of the set that these words make.
+fn trace_of(rt: &impl Abort, alloc: Global, words: &[u32; 128]) -> ReadTrace {
+    let set = make(alloc, words).expect(rt, "there is memory");
+    let scale = scale_of(&set).expect(rt, "a scale");
+    let plan = compile(alloc, set).expect(rt, "a plan");
+    plan.know_lawful();
+    let rounds = count_rounds(alloc, &plan).expect(rt, "there is memory");
+    let table = table_of(alloc, &plan, rounds).expect(rt, "there is memory");
+    table_law();
+    ReadTrace::of_table(alloc, plan.set(), scale, &table).expect(rt, "there is memory")
+}
+
+/// Makes sure that a trace is valid, of its rows, and that none of its jobs is preempted or moved.
+fn assert_unmoved(rt: &impl Abort, trace: &ReadTrace, rows: usize) {
+    assert!(rt; trace.rows().len() == rows);
+    match check_trace(trace) {
+        Verdict::Valid => {
+            let trace = trace.checked();
+            assert!(rt; (preemptions(trace), migrations(trace)) == (0, 0));
+        }
+        Verdict::Fault { line, kind: _ } => panic!(rt; "line {line}"),
+    }
+}
+
 #[test]
 fn words_and_sets_of_numbers(rt: HostRuntime) {
     for (number, first, last) in WORDS {
@@ -122,6 +149,7 @@ fn words_and_sets_of_numbers(rt: HostRuntime) {
     }
     assert_made(&rt, rt.alloc(), &[0; 128], OF_ZEROS);
     assert_counts(&rt, rt.alloc(), &[0; 128], COUNTS_OF_ZEROS);
+    assert_unmoved(&rt, &trace_of(&rt, rt.alloc(), &[0; 128]), 24000);
     for (number, tasks) in DRAWN {
         assert_made(&rt, rt.alloc(), &words_of(*number), tasks);
     }
