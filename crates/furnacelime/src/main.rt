@@ -129,6 +129,7 @@ fn run_and_close<R: Source, W: Write + Drop, E: Sink, X: Threads + Wait + Sync>(
         (error_of E.Sink err.old) (error_of E.Sink err.new) (kept_back out.new) result }
     ensures usage { result ≢ Status.NoMemory →
         ((result ≡ Status.Usage) ↔ (command_of (map string_bytes (drop 1 called_with.now)) ≡ None)) }
+    ensures sure { result ≢ Status.GateFault }
 
     // Done: `out` took exactly the text that the command writes, and keeps none of it back.
     ensures done { result ≡ Status.Done →

@@ -11,12 +11,13 @@ use Rattle.pure_commands.specs.Ends.{Streams, ErrorStream, IsDone, IsUnread, IsU
 use Rattle.pure_commands.specs.Refuse.{IsRefused}
 use Rattle.pure_commands.specs.declared.refusal.Refusal.TheVariants as why
 use Rattle.exit_status.specs.declared.Status.{Status}
-use Rattle.exit_status.specs.declared.Status.TheVariants.{Done, Invalid, Usage, NoMemory}
+use Rattle.exit_status.specs.declared.Status.TheVariants.{Done, Invalid, Usage, NoMemory, GateFault}
 use Rattle.run_tool.specs.Alone.{RunPrograms, AreSure, EndsAlone}
 use Rattle.run_tool.specs.Ends.{IsCommandDone}
 use Rattle.run_tool.specs.Executed.{EndsWith}
 use Rattle.run_tool.specs.Executions.{GateSeen, JobSeen, Crew, IsFreshCrew}
 use Rattle.run_tool.proofs.CrewMade.{crew}
+use Rattle.run_tool.proofs.GateLemmas.{no_gate_failed}
 use Rattle.run_tool.proofs.AskedLemmas.{words_unread}
 
 -- where there are no gates and no jobs, none failed
@@ -41,6 +42,7 @@ module _ (words : List (List ℕ)) (old new : Streams) (err err' : ErrorStream) 
           record { command = c; asked = asked; before = before; fresh = λ asks. fresh; programs = programs; done = told };
       invalid = invalid;
       ends = λ c is. record { before = before; now = now; fresh = λ asks made. fresh; programs = programs; sure = sure; ends = ends c is };
+      sure = no_gate_failed words before now old new err err' status sure usage ends;
     }
 
     -- nothing was to be executed
@@ -69,6 +71,7 @@ module _ (words : List (List ℕ)) (old new : Streams) (err err' : ErrorStream) 
         sure = none_sure;
         ends = ends c (crew [] []) (crew [] []) is;
       };
+      sure = no_gate_failed words (crew [] []) (crew [] []) old new err err' status none_sure usage (λ c is. ends c (crew [] []) (crew [] []) is);
     }
 
   -- there was no memory for the gates and the jobs
@@ -90,6 +93,7 @@ module _ (words : List (List ℕ)) (old new : Streams) (err err' : ErrorStream) 
             sure = none_sure;
             ends = asked.ends c is;
           };
+          sure = λ is. absurd (let bad : NoMemory ≡ GateFault = sym refused.status_is ∙ is in cc);
         }
 
     pub unread_unmade : command_of words ≡ None → IsUsage old new err err' status

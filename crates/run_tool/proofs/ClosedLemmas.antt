@@ -7,7 +7,7 @@ use Rattle.command_words.specs.declared.command.Command.TheVariants.{Read, Batch
 use Rattle.command_words.specs.declared.command.Execution.{Execution}
 use Rattle.command_words.specs.declared.command.Execution.TheVariants.{Exec, ExecMet, Drill, Jobs, Modes}
 use Rattle.exit_status.specs.declared.Status.{Status}
-use Rattle.exit_status.specs.declared.Status.TheVariants.{Done, Invalid, Usage, WriteFault, NoMemory}
+use Rattle.exit_status.specs.declared.Status.TheVariants.{Done, Invalid, Usage, WriteFault, NoMemory, GateFault}
 use Rattle.pure_commands.specs.Commands.{Output, of_set, of_tree, of_batch, output_of}
 use Rattle.pure_commands.specs.Ends.{Streams, IsTold, IsDoneSoundly}
 use Rattle.run_tool.specs.Closing.{closed}
@@ -36,6 +36,13 @@ usage_closed Invalid result (Err f) is usage wanted =
     let told = usage (λ e. let bad : Invalid ≡ NoMemory = e in cc) in
     (λ e. absurd (let bad : WriteFault ≡ Usage = sym is ∙ e in cc), λ p. absurd (let bad : Invalid ≡ Usage = told.1 p in cc))
 usage_closed {P} _ result (Err f) is usage wanted = subst (λ (s : Status). s ≢ NoMemory → ((s ≡ Usage) ↔ P)) (sym is) usage wanted
+
+-- a gate's fault isn't told where none was
+pub sure_closed : (status result : Status) (flushed : Result (Unit {0}) Failed) → result ≡ closed status flushed → status ≢ GateFault → result ≢ GateFault
+sure_closed status result (Ok _) is sure = λ e. sure (sym is ∙ e)
+sure_closed Done result (Err f) is sure = λ e. let bad : WriteFault ≡ GateFault = sym is ∙ e in cc
+sure_closed Invalid result (Err f) is sure = λ e. let bad : WriteFault ≡ GateFault = sym is ∙ e in cc
+sure_closed _ result (Err f) is sure = λ e. sure (sym is ∙ e)
 
 -- ---- the text
 

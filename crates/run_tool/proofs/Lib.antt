@@ -6,6 +6,7 @@ pub mod LoadedLemmas
 pub mod JobRunLemmas
 pub mod RunLemmas
 pub mod AskedLemmas
+pub mod GateLemmas
 pub mod AloneLemmas
 pub mod CrewMade
 pub mod CrewLemmas

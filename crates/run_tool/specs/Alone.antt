@@ -8,7 +8,7 @@ use Rattle.command_words.specs.declared.command.Reading.TheVariants.{Check}
 use Rattle.pure_commands.specs.Commands.{of_trace}
 use Rattle.pure_commands.specs.Ends.{Streams, ErrorStream, IsDone, IsUsage}
 use Rattle.exit_status.specs.declared.Status.{Status}
-use Rattle.exit_status.specs.declared.Status.TheVariants.{Done, Invalid, Usage, NoMemory}
+use Rattle.exit_status.specs.declared.Status.TheVariants.{Done, Invalid, Usage, NoMemory, GateFault}
 use Rattle.run_tool.specs.Closing.{IsClosed}
 use Rattle.run_tool.specs.Ends.{IsCommandDone}
 use Rattle.run_tool.specs.Executed.{EndsWith}
@@ -41,12 +41,13 @@ pub record IsDoneWithOwn (words : List (List ℕ)) (old new : Streams) : Type 0 
   pub programs : RunPrograms before
   pub done : IsCommandDone command Done old new before
 
--- the clauses of the top call
+-- the clauses of the top call; its gates never fail, so the status is never that of a gate's fault
 pub record EndsAlone (words : List (List ℕ)) (old new : Streams) (err err' : ErrorStream) (status : Status) : Type 0 where
   pub usage : status ≢ NoMemory → ((status ≡ Usage) ↔ (command_of words ≡ None))
   pub done : status ≡ Done → IsDoneWithOwn words old new
   pub invalid : status ≡ Invalid → (command_of words ≡ Some (Read Check)) × IsDone of_trace Invalid old new
   pub ends : (c : Command) → command_of words ≡ Some c → EndsWithOwn words c old new err err' status
+  pub sure : status ≢ GateFault
 
 -- the program ended with this status: the words' command ended first, with a status and a line of its own, and then `out` was asked to
 -- hand on what it kept back, of which it keeps this

@@ -1,5 +1,5 @@
 use Rattle.std.proofs.Common.{refl}
-use Rattle.run_tool.proofs.ClosedLemmas.{usage_closed, done_closed, command_closed}
+use Rattle.run_tool.proofs.ClosedLemmas.{usage_closed, sure_closed, done_closed, command_closed}
 use Rattle.furnacelime.proofs.run_and_close.Goals as goal
 
 pub returns-clause-ends : goal.returns-clause-ends
@@ -20,6 +20,9 @@ returns-clause-ends g c =
 
 pub returns-clause-usage : goal.returns-clause-usage
 returns-clause-usage g c = usage_closed _ _ _ c.close_run.ensures.closed.status_is c.run_words-status.ensures.ends.usage
+
+pub returns-clause-sure : goal.returns-clause-sure
+returns-clause-sure g c = sure_closed _ _ _ c.close_run.ensures.closed.status_is c.run_words-status.ensures.ends.sure
 
 pub returns-clause-done : goal.returns-clause-done
 returns-clause-done g c = λ is.
